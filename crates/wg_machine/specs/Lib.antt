@@ -1,0 +1,14 @@
+pub mod Agreement
+pub mod Buffers
+pub mod Bytes
+pub mod Choice
+pub mod Effects
+pub mod GoodShape
+pub mod Grids
+pub mod LaunchMeaning
+pub mod Need
+pub mod Run
+pub mod State
+pub mod Step
+pub mod Units
+pub mod Unrolling

@@ -1,0 +1,17 @@
+//! The machine of a work graph: its shape, records and launches, what bodies mean, and what a run is.
+#![tactic(auto)]
+
+mod bodies;
+mod launch;
+mod laws;
+mod memory;
+mod shape;
+
+pub use bodies::{Bodies, Halt};
+pub use launch::{
+    Bag, Entries, Entry, EntryList, Groups, Launch, Limits, Live, Made, Record, Records, Sent,
+    SentList,
+};
+pub use laws::{each_once, needs_are_kept, slots_hold_bytes, something_has_room};
+pub use memory::{Atomic, Memory, ReadLog, Seen, View, Write, Writes};
+pub use shape::{Kind, NodeName, NodeNames, Output, Outputs, Shape, Targets, Unit, Units};

@@ -1,6 +1,5 @@
 -- What a launch does, and the laws that every implementation of bodies proves of it.
-use Rattle.std.specs.Prelude.{◌≡◌, ⊤, ℕ, ◌*◌, ◌^◌, ◌≤◌, ◌<◌, ◌==◌, None, Option, Some, List, [], ◌∷◌, length, Contains, slice_get, slice_index, count_by}
-use Rattle.std.specs.Option.{option_map}
+use Rattle.std.specs.Prelude.{◌≡◌, ⊤, ℕ, ◌^◌, ◌≤◌, ◌<◌, ◌==◌, None, Option, Some, List, [], ◌∷◌, length, Contains, slice_get, slice_index, count_by}
 use Rattle.wg_machine.specs.declared.shape.Output.{Output}
 use Rattle.wg_words.specs.Each.{Each}
 use Rattle.wg_machine.specs.declared.shape.Shape.{Shape}

@@ -1,5 +1,5 @@
 -- Runs of the machine, and what a journal uses of each record.
-use Rattle.std.specs.Prelude.{◌≡◌, ⊤, ℕ, ◌&&◌, List, [], ◌∷◌, ◌++◌, length, slice_get, unwrap_or, sum_by, count_by}
+use Rattle.std.specs.Prelude.{◌≡◌, ℕ, ◌&&◌, List, [], ◌∷◌, ◌++◌, slice_get, unwrap_or, sum_by, count_by}
 use Rattle.std.specs.List.{flat_map}
 use Rattle.std.specs.Option.{option_map}
 use Rattle.wg_machine.specs.declared.shape.Shape.{Shape}

@@ -29,16 +29,8 @@ pub enum Atomic {
 /// What is done to one word of a buffer. Outside the buffer nothing is done.
 #[derive(Clone, Copy, Debug, PartialEq, Eq)]
 pub enum Write {
-    Set {
-        buffer: u32,
-        word: u32,
-        value: Word,
-    },
-    Add {
-        buffer: u32,
-        word: u32,
-        value: Word,
-    },
+    Set { buffer: u32, word: u32, value: Word },
+    Add { buffer: u32, word: u32, value: Word },
 }
 
 /// A word that was read, with its value.

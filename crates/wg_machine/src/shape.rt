@@ -16,9 +16,15 @@ pub enum Kind {
     /// One record gives one thread.
     Thread,
     /// One thread group takes from 1 to `most` records.
-    Coalescing { most: u32 },
+    Coalescing {
+        most: u32,
+    },
     /// One record launches a fixed grid of thread groups.
-    Grid { x: u32, y: u32, z: u32 },
+    Grid {
+        x: u32,
+        y: u32,
+        z: u32,
+    },
     /// One record launches the grid that its `parts` words from `first` on hold, clipped to x, y, z.
     GridField {
         first: u32,

@@ -1,6 +1,6 @@
 -- What is sent within the budgets of a unit is within the needs.
 use Rattle.std.proofs.Common.{◌≡◌, ℕ, suc, ◌+◌, ◌-◌, ◌≤◌, Bool, true, false, List, [], ◌∷◌, refl, ap, ◌∙◌, subst, arith, Some}
-use Rattle.std.specs.Prelude.{if◌then◌else◌, ◌==◌, ◌&&◌, nat_le, count_by, slice_index}
+use Rattle.std.specs.Prelude.{◌==◌, ◌&&◌, nat_le, count_by, slice_index}
 use Rattle.std.specs.List.{list_any}
 use Rattle.std.proofs.lemmas.Bool.Decides.{nat_tests, Decides-eqb}
 use Rattle.wg_machine.specs.declared.shape.Output.{Output}
@@ -8,7 +8,7 @@ use Rattle.wg_machine.specs.declared.shape.Unit.{Unit}
 use Rattle.wg_machine.specs.declared.launch.Sent.{Sent}
 use Rattle.wg_machine.specs.LaunchMeaning.{GoesThrough, AllGoThrough, KeepsBudgets}
 use Rattle.wg_machine.specs.Need.{is_target, reaches, need_from, need_of}
-use Rattle.wg_machine.proofs.Counts.{count_cons, any_contained}
+use Rattle.wg_machine.proofs.Counts.{pay, count_cons, any_contained}
 
 self_eq : (n : ℕ) → (n == n) ≡ true
 self_eq n = grind (arith, nat_tests)
@@ -23,9 +23,6 @@ goes_reaches u b s g =
     (both (g.output.budget == b) (list_any (is_target s.unit) g.output.elements)
     (rw g.on_budget (self_eq b))
     (any_contained (is_target s.unit) g.output.elements (Some s.unit) g.targets (self_eq s.unit)))
-
-abbrev pay : Bool → ℕ → ℕ
-pay b n = if b then n else 0
 
 one_more : (a b : Bool) (m n : ℕ) → (a ≡ true → b ≡ true) → m ≤ n → pay a 1 + m ≤ pay b 1 + n
 one_more true true m n h l = omega arith

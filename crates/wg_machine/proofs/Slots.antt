@@ -13,10 +13,7 @@ use Rattle.wg_machine.specs.Bytes.{live_bytes, plan_bytes, KeepsSlots}
 use Rattle.wg_machine.specs.Need.{most}
 use Rattle.wg_machine.specs.State.{State}
 use Rattle.wg_machine.specs.Units.{stride_at}
-use Rattle.wg_machine.proofs.Counts.{count_cons}
-
-abbrev pay : Bool → ℕ → ℕ
-pay b n = if b then n else 0
+use Rattle.wg_machine.proofs.Counts.{pay, count_cons}
 
 -- in a slot of the unit, and no entry
 abbrev is_in_slot : ℕ → ℕ → Live → Bool

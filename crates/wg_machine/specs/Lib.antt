@@ -3,6 +3,7 @@ pub mod Buffers
 pub mod Bytes
 pub mod Choice
 pub mod Effects
+pub mod Fitting
 pub mod GoodShape
 pub mod Grids
 pub mod LaunchMeaning

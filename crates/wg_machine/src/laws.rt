@@ -2,16 +2,22 @@ ghost use Rattle.std.specs.Prelude.{◌≡◌, ◌≢◌, ◌≤◌, ◌<◌, �
 ghost use Rattle.wg_machine.specs.declared.shape.Shape.{Shape as Graph};
 ghost use Rattle.wg_machine.specs.declared.shape.Unit.{Unit as Node};
 ghost use Rattle.wg_machine.specs.declared.launch.Entry.{Entry as Line};
+ghost use Rattle.wg_machine.specs.declared.launch.Launch.{Launch as Launched};
+ghost use Rattle.wg_machine.specs.declared.launch.Live.{Live as Waiting};
 ghost use Rattle.wg_machine.specs.declared.launch.Sent.{Sent as Record};
-ghost use Rattle.wg_machine.specs.Buffers.{Buffers};
+ghost use Rattle.wg_machine.specs.Buffers.{Buffers, lengths_of};
 ghost use Rattle.wg_machine.specs.Bytes.{KeepsSlots, live_bytes, plan_bytes};
 ghost use Rattle.wg_machine.specs.Choice.{SomeHasRoom};
+ghost use Rattle.wg_words.specs.Each.{Each};
+ghost use Rattle.wg_machine.specs.Fitting.{BagFits, StateFits, IsLawful};
+ghost use Rattle.wg_machine.specs.Grids.{groups_of};
 ghost use Rattle.wg_machine.specs.GoodShape.{IsGoodShape};
-ghost use Rattle.wg_machine.specs.LaunchMeaning.{Meaning, KeepsBudgets};
+ghost use Rattle.wg_machine.specs.LaunchMeaning.{Meaning, Outcome, Arrives, FitsShape, KeepsBudgets, KeepsLaws};
 ghost use Rattle.wg_machine.specs.Need.{need_of};
-ghost use Rattle.wg_machine.specs.Run.{IsRun, IsComplete, EachOnce, all_born};
+ghost use Rattle.wg_machine.specs.Run.{IsRun, IsComplete, EachOnce, EachState, all_born, times};
 ghost use Rattle.wg_machine.specs.State.{State, start};
-ghost use Rattle.wg_machine.specs.Step.{Passed};
+ghost use Rattle.wg_machine.specs.Step.{Passed, Allows};
+ghost use Rattle.wg_machine.specs.Units.{depth_at};
 
 /// A complete run takes each group of each record once.
 pub fn each_once()
@@ -38,4 +44,31 @@ pub fn something_has_room()
     ensures { (shape : Graph) (width entries : ℕ) (s : State)
         → IsGoodShape shape → 1 ≤ width → KeepsSlots shape width entries s → s.bag ≢ []
         → SomeHasRoom shape width entries s }
+{}
+
+/// A grid has no group twice.
+pub fn no_group_twice()
+    ensures { (grid at : List ℕ) → times at (groups_of grid) ≤ 1 }
+{}
+
+/// A launch that a bag of fitting records allows fits the shape.
+pub fn allowed_launches_fit()
+    ensures { (shape : Graph) (bag : List Waiting) (launch : Launched) (at : List ℕ)
+        → IsGoodShape shape → BagFits shape bag → Allows shape bag launch at → FitsShape shape launch }
+{}
+
+/// Every state of a run of lawful bodies fits the shape and keeps the buffers' lengths.
+pub fn runs_fit()
+    ensures { (shape : Graph) (made : Meaning) (turns : ℕ) (script : List Record) (buffers : Buffers)
+        (entries : List Line) (trail : List Passed) (final : State)
+        → IsGoodShape shape → IsLawful shape made → Each (Arrives shape) script
+        → IsRun shape made turns (start shape script buffers) entries trail final
+        → EachState (StateFits shape (lengths_of buffers)) (start shape script buffers) trail }
+{}
+
+/// What a launch within its budgets sends goes to deeper units.
+pub fn sent_goes_deeper()
+    ensures { (shape : Graph) (launch : Launched) (buffers : Buffers) (turns : ℕ) (o : Outcome)
+        → IsGoodShape shape → FitsShape shape launch → KeepsLaws shape launch buffers turns o
+        → Each (λ (s : Record). depth_at shape launch.unit < depth_at shape s.unit) o.sent }
 {}

@@ -12,6 +12,9 @@ pub use launch::{
     Bag, Entries, Entry, EntryList, Groups, Launch, Limits, Live, Made, Record, Records, Sent,
     SentList,
 };
-pub use laws::{each_once, needs_are_kept, slots_hold_bytes, something_has_room};
+pub use laws::{
+    allowed_launches_fit, each_once, needs_are_kept, no_group_twice, runs_fit, sent_goes_deeper,
+    slots_hold_bytes, something_has_room,
+};
 pub use memory::{Atomic, Memory, ReadLog, Seen, View, Write, Writes};
 pub use shape::{Kind, NodeName, NodeNames, Output, Outputs, Shape, Targets, Unit, Units};

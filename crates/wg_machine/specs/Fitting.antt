@@ -1,0 +1,30 @@
+-- Bags whose records fit a shape, and bodies that keep the laws. This project's own.
+use Rattle.std.specs.Prelude.{◌≡◌, ℕ, ◌<◌, ◌≤◌, List, length, IfSome}
+use Rattle.wg_words.specs.Each.{Each}
+use Rattle.wg_machine.specs.declared.launch.Launch.{Launch}
+use Rattle.wg_machine.specs.declared.launch.Live.{Live}
+use Rattle.wg_machine.specs.declared.shape.Shape.{Shape}
+use Rattle.wg_machine.specs.Buffers.{Buffers, lengths_of}
+use Rattle.wg_machine.specs.Grids.{grid_of, groups_of}
+use Rattle.wg_machine.specs.LaunchMeaning.{Meaning, FitsShape, KeepsLaws}
+use Rattle.wg_machine.specs.Run.{times}
+use Rattle.wg_machine.specs.State.{State}
+use Rattle.wg_machine.specs.Units.{kind_at, words_at}
+
+-- a live record is of a unit of the shape, has its words, and its groups are groups of its grid, each at most once
+pub record IsFitting (shape : Shape) (r : Live) : Type 0 where
+  pub unit : r.unit < length shape.units
+  pub words : length r.words ≡ words_at shape r.unit
+  pub groups : (at : List ℕ) → times at r.groups ≤ times at (groups_of (grid_of (kind_at shape r.unit) r.words))
+
+abbrev pub BagFits : Shape → List Live → Type 0
+BagFits shape bag = Each (IsFitting shape) bag
+
+-- a state's bag fits, and its buffers have these lengths
+pub record StateFits (shape : Shape) (lengths : List ℕ) (s : State) : Type 0 where
+  pub bag : BagFits shape s.bag
+  pub buffers : lengths_of s.buffers ≡ lengths
+
+-- every launch that fits and is not spent keeps to the laws
+abbrev pub IsLawful : Shape → Meaning → Type 0
+IsLawful shape made = (l : Launch) (m : Buffers) (t : ℕ) → FitsShape shape l → IfSome (made l m t) (KeepsLaws shape l m t)

@@ -50,7 +50,7 @@ clipped_low first parts words k most h = choice (nat_lt k parts)
     choice true = omega arith
     choice false = h
 
-small_grid : (words_count : ℕ) (k : Kind) (words : List ℕ) → IsGoodKind words_count k → groups_in (grid_of k words) < 2 ^ 24
+pub small_grid : (words_count : ℕ) (k : Kind) (words : List ℕ) → IsGoodKind words_count k → groups_in (grid_of k words) < 2 ^ 24
 small_grid n Thread words good = omega arith
 small_grid n (Coalescing m) words good = omega arith
 small_grid n (Grid x y z) words good = good.product
@@ -71,7 +71,7 @@ good_kind shape u good = choice (slice_get shape.units u) refl
     choice None e = tt
     choice (Some n) e = (good.units u n e).kind
 
-grid_kind : (k : Kind) (words : List ℕ) → HasGridOf k (grid_of k words)
+pub grid_kind : (k : Kind) (words : List ℕ) → HasGridOf k (grid_of k words)
 grid_kind Thread words = refl
 grid_kind (Coalescing m) words = refl
 grid_kind (Grid x y z) words = tt
@@ -130,7 +130,7 @@ left_fits shape nums at (x ∷ bag) fits = choice (is_among nums x.number) (left
     choice true rest = each_append (IsFitting shape) (kept (record x { groups = without_group at x.groups })) (left_after nums at bag) (kept_fits shape x.number x.unit x.words (without_group at x.groups) less) rest
     choice false rest = (fits.0, rest)
 
-born_fits : (shape : Shape) (n : ℕ) (sent : List Sent) → Each (Arrives shape) sent → BagFits shape (flat_map kept (born shape n sent))
+pub born_fits : (shape : Shape) (n : ℕ) (sent : List Sent) → Each (Arrives shape) sent → BagFits shape (flat_map kept (born shape n sent))
 born_fits shape n [] all = tt
 born_fits shape n (s ∷ sent) all =
     each_append (IsFitting shape) (kept (live_of shape n s)) (flat_map kept (born shape (n + 1) sent))

@@ -1,3 +1,4 @@
+pub mod Additive
 pub mod Agreement
 pub mod Buffers
 pub mod Bytes
@@ -11,5 +12,6 @@ pub mod Need
 pub mod Run
 pub mod State
 pub mod Step
+pub mod Totals
 pub mod Units
 pub mod Unrolling

@@ -5,6 +5,7 @@ ghost use Rattle.wg_machine.specs.declared.launch.Entry.{Entry as Line};
 ghost use Rattle.wg_machine.specs.declared.launch.Launch.{Launch as Launched};
 ghost use Rattle.wg_machine.specs.declared.launch.Live.{Live as Waiting};
 ghost use Rattle.wg_machine.specs.declared.launch.Sent.{Sent as Record};
+ghost use Rattle.wg_machine.specs.Additive.{AreWords, IsAdditive};
 ghost use Rattle.wg_machine.specs.Buffers.{Buffers, lengths_of};
 ghost use Rattle.wg_machine.specs.Bytes.{KeepsSlots, live_bytes, plan_bytes};
 ghost use Rattle.wg_machine.specs.Choice.{SomeHasRoom};
@@ -17,6 +18,7 @@ ghost use Rattle.wg_machine.specs.Need.{need_of};
 ghost use Rattle.wg_machine.specs.Run.{IsRun, IsComplete, EachOnce, EachState, all_born, times};
 ghost use Rattle.wg_machine.specs.State.{State, start};
 ghost use Rattle.wg_machine.specs.Step.{Passed, Allows};
+ghost use Rattle.wg_machine.specs.Totals.{EndsWithTotals};
 ghost use Rattle.wg_machine.specs.Units.{depth_at};
 
 /// A complete run takes each group of each record once.
@@ -71,4 +73,24 @@ pub fn sent_goes_deeper()
     ensures { (shape : Graph) (launch : Launched) (buffers : Buffers) (turns : ℕ) (o : Outcome)
         → IsGoodShape shape → FitsShape shape launch → KeepsLaws shape launch buffers turns o
         → Each (λ (s : Record). depth_at shape launch.unit < depth_at shape s.unit) o.sent }
+{}
+
+/// Every complete run of additive bodies, whatever its order, ends with the script's buffers and the totals of the
+/// entry records added.
+pub fn runs_end_with_totals()
+    ensures { (shape : Graph) (made : Meaning) (turns : ℕ) (script : List Record) (buffers : Buffers)
+        (entries : List Line) (trail : List Passed) (final : State)
+        → IsGoodShape shape → IsLawful shape made → IsAdditive shape made → Each (Arrives shape) script → AreWords buffers
+        → IsRun shape made turns (start shape script buffers) entries trail final → IsComplete final
+        → EndsWithTotals shape made turns script buffers final.buffers }
+{}
+
+/// Any two complete runs of additive bodies from one script end with the same buffers.
+pub fn runs_end_alike()
+    ensures { (shape : Graph) (made : Meaning) (turns : ℕ) (script : List Record) (buffers : Buffers)
+        (entries others : List Line) (trail trail_of_others : List Passed) (final final_of_others : State)
+        → IsGoodShape shape → IsLawful shape made → IsAdditive shape made → Each (Arrives shape) script → AreWords buffers
+        → IsRun shape made turns (start shape script buffers) entries trail final → IsComplete final
+        → IsRun shape made turns (start shape script buffers) others trail_of_others final_of_others → IsComplete final_of_others
+        → final.buffers ≡ final_of_others.buffers }
 {}

@@ -1,6 +1,6 @@
 -- Additive bodies end every complete run with the same buffers.
 use Rattle.std.proofs.Common.{unwrap_or, ◌≡◌, ℕ, zero, suc, ◌+◌, ◌-◌, ◌%◌, ◌^◌, ◌<◌, ◌≤◌, Bool, true, false, ◌||◌, List, [], ◌∷◌, ◌++◌, length, map, Option, Some, None, refl, ap, sym, ◌∙◌, subst, arith, inl, inr, ◌⊎◌}
-use Rattle.std.specs.Prelude.{IsTrue, IfSome, if◌then◌else◌, slice_index, slice_get, sum_by, ⊤}
+use Rattle.std.specs.Prelude.{IsTrue, IfSome, slice_index, slice_get, sum_by, ⊤}
 use Rattle.std.specs.List.{flat_map}
 use Rattle.std.specs.Option.{option_map}
 use Rattle.std.proofs.lemmas.Bool.{cases_lt}
@@ -18,16 +18,17 @@ use Rattle.wg_machine.specs.Additive.{zeros, plain, unnumbered, AreWords, IsAdde
 use Rattle.wg_machine.specs.Buffers.{Buffers, lengths_of, buffer_at, word_at}
 use Rattle.wg_machine.specs.Fitting.{StateFits, IsLawful}
 use Rattle.wg_machine.specs.GoodShape.{IsGoodShape}
-use Rattle.wg_machine.specs.Grids.{grid_of, groups_of, place_of, has_group, same_group, without_group}
+use Rattle.wg_machine.specs.Grids.{grid_of, groups_of, place_of, has_group, same_group}
 use Rattle.wg_machine.specs.LaunchMeaning.{Meaning, Outcome, Arrives, FitsShape, KeepsLaws}
 use Rattle.wg_machine.specs.Run.{IsRun, IsComplete}
 use Rattle.wg_machine.specs.State.{State, kept, born, start}
-use Rattle.wg_machine.specs.Step.{Passed, Step, Allows, IsReady, left_after, is_among, taken, record_of, numbers_of}
+use Rattle.wg_machine.specs.Step.{Passed, Step, Allows, IsReady, left_after, taken, record_of, numbers_of}
 use Rattle.wg_machine.specs.Totals.{Question, added_by, group_adds, groups_add, total_within, total, total_of_entries, EndsWithTotals}
 use Rattle.wg_machine.specs.Units.{kind_at, words_at, most_inputs, depth_at}
 use Rattle.wg_machine.proofs.Deeper.{sent_deeper}
 use Rattle.wg_machine.proofs.Fits.{allowed_fits, step_keeps, born_fits, small_grid, good_kind, grid_kind}
 use Rattle.wg_machine.proofs.Groups.{place_in_grid}
+use Rattle.wg_machine.proofs.Pending.{Count, pending, running, Even, pending_append, pending_kept, pending_left, pending_born}
 
 -- What the law is told of a graph: its shape is good, its bodies keep the laws and only add.
 record Told (shape : Shape) (made : Meaning) : Type 0 where
@@ -43,76 +44,6 @@ sum_same P f g h (x ∷ xs) each =
     let c = h x each.0 in
     let d = sum_same P f g h xs each.1 in
     omega (arith, a, b, c, d)
-
--- what is to run
-
--- what a unit's group of a record with these words counts
-abbrev Count : Type 0
-Count = ℕ → List ℕ → List ℕ → ℕ
-
-abbrev pending : Count → List Live → ℕ
-pending f [] = 0
-pending f (r ∷ bag) = sum_by (f r.unit r.words) r.groups + pending f bag
-
-abbrev running : Count → List ℕ → List Live → ℕ
-running f at [] = 0
-running f at (r ∷ rs) = f r.unit r.words at + running f at rs
-
-pending_append : (f : Count) (a b : List Live) → pending f (a ++ b) ≡ pending f a + pending f b
-pending_append f [] b = omega arith
-pending_append f (x ∷ a) b = rw (pending_append f a b) (omega arith)
-
-pending_kept_one : (f : Count) (number unit : ℕ) (words : List ℕ) (gs : List (List ℕ)) → pending f (kept (record { number = number; unit = unit; words = words; groups = gs })) ≡ sum_by (f unit words) gs
-pending_kept_one f number unit words [] = refl
-pending_kept_one f number unit words (g ∷ gs) = omega arith
-
-pending_kept : (f : Count) (xs : List Live) → pending f (flat_map kept xs) ≡ pending f xs
-pending_kept f [] = refl
-pending_kept f (x ∷ xs) =
-    let a = pending_append f (kept x) (flat_map kept xs) in
-    let b = pending_kept_one f x.number x.unit x.words x.groups in
-    let c = pending_kept f xs in
-    omega (arith, a, b, c)
-
--- a count that does not tell apart groups that are the same
-abbrev Even : (List ℕ → ℕ) → Type 0
-Even f = (a b : List ℕ) → same_group a b ≡ true → f a ≡ f b
-
-sum_without : (f : List ℕ → ℕ) (e : List ℕ) (gs : List (List ℕ)) → Even f → IsTrue (has_group gs e) → sum_by f gs ≡ f e + sum_by f (without_group e gs)
-sum_without f e [] even h = absurd (cc)
-sum_without f e (g ∷ gs) even h = choice (λ c. sum_without f e gs even c) (same_group g e) refl h
-  where
-    choice : (IsTrue (has_group gs e) → sum_by f gs ≡ f e + sum_by f (without_group e gs)) → (b : Bool) → same_group g e ≡ b → IsTrue (b || has_group gs e) → sum_by f (g ∷ gs) ≡ f e + sum_by f (if b then gs else g ∷ without_group e gs)
-    choice ih true n h =
-        let a = sum_by-cons f g gs in
-        let b = even g e n in
-        omega (arith, a, b)
-    choice ih false n h =
-        let a = sum_by-cons f g gs in
-        let b = sum_by-cons f g (without_group e gs) in
-        let c = ih h in
-        omega (arith, a, b, c)
-
--- what was to run before a launch is what it runs, and what is to run after it
-pending_left : (f : Count) (at : List ℕ) (unit : ℕ) (nums : List ℕ) (bag : List Live) → ((u : ℕ) (ws : List ℕ) → Even (f u ws)) → Each (IsReady unit at) (taken nums bag) → pending f bag ≡ running f at (taken nums bag) + pending f (left_after nums at bag)
-pending_left f at unit nums [] even ready = refl
-pending_left f at unit nums (x ∷ bag) even ready = choice (λ h. pending_left f at unit nums bag even h) (is_among nums x.number) ready
-  where
-    choice : (Each (IsReady unit at) (taken nums bag) → pending f bag ≡ running f at (taken nums bag) + pending f (left_after nums at bag)) → (b : Bool) → Each (IsReady unit at) (if b then x ∷ taken nums bag else taken nums bag) → pending f (x ∷ bag) ≡ running f at (if b then x ∷ taken nums bag else taken nums bag) + pending f ((if b then kept (record x { groups = without_group at x.groups }) else x ∷ []) ++ left_after nums at bag)
-    choice ih true ready =
-        let a = ih ready.1 in
-        let b = sum_without (f x.unit x.words) at x.groups (even x.unit x.words) ready.0.group_is in
-        let c = pending_append f (kept (record x { groups = without_group at x.groups })) (left_after nums at bag) in
-        let d = pending_kept_one f x.number x.unit x.words (without_group at x.groups) in
-        omega (arith, a, b, c, d)
-    choice ih false ready = let a = ih ready in omega (arith, a)
-
-pending_born : (f : Count) (shape : Shape) (n : ℕ) (ss : List Sent) → pending f (born shape n ss) ≡ sum_by (λ (s : Sent). sum_by (f s.unit s.words) (groups_of (grid_of (kind_at shape s.unit) s.words))) ss
-pending_born f shape n [] = refl
-pending_born f shape n (s ∷ ss) =
-    let a = sum_by-cons (λ (s : Sent). sum_by (f s.unit s.words) (groups_of (grid_of (kind_at shape s.unit) s.words))) s ss in
-    let b = pending_born f shape (n + 1) ss in
-    omega (arith, a, b)
 
 -- totals do not depend on how many generations are allowed, where they are enough
 

@@ -3,6 +3,7 @@ use Rattle.std.specs.Prelude.{◌≡◌, ℕ, ◌<◌, ◌≤◌, List, length, 
 use Rattle.wg_words.specs.Each.{Each}
 use Rattle.wg_machine.specs.declared.launch.Launch.{Launch}
 use Rattle.wg_machine.specs.declared.launch.Live.{Live}
+use Rattle.wg_machine.specs.declared.shape.Kind.TheVariants.{Thread}
 use Rattle.wg_machine.specs.declared.shape.Shape.{Shape}
 use Rattle.wg_machine.specs.Buffers.{Buffers, lengths_of}
 use Rattle.wg_machine.specs.Grids.{grid_of, groups_of}
@@ -28,3 +29,10 @@ pub record StateFits (shape : Shape) (lengths : List ℕ) (s : State) : Type 0 w
 -- every launch that fits and is not spent keeps to the laws
 abbrev pub IsLawful : Shape → Meaning → Type 0
 IsLawful shape made = (l : Launch) (m : Buffers) (t : ℕ) → FitsShape shape l → IfSome (made l m t) (KeepsLaws shape l m t)
+
+-- every launch that fits sends at most one record
+abbrev pub SendsOne : Shape → Meaning → Type 0
+SendsOne shape made = (l : Launch) (m : Buffers) (t : ℕ) → FitsShape shape l → IfSome (made l m t) (λ o. length o.sent ≤ 1)
+
+abbrev pub OnlyThreads : Shape → Type 0
+OnlyThreads shape = (u : ℕ) → kind_at shape u ≡ Thread

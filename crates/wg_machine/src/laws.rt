@@ -1,4 +1,4 @@
-ghost use Rattle.std.specs.Prelude.{◌≡◌, ◌≢◌, ◌≤◌, ◌<◌, ◌==◌, [], List, ℕ, slice_get, Some, count_by};
+ghost use Rattle.std.specs.Prelude.{◌≡◌, ◌≢◌, ◌≤◌, ◌<◌, ◌*◌, ◌==◌, [], length, List, ℕ, slice_get, Some, count_by};
 ghost use Rattle.wg_machine.specs.declared.shape.Shape.{Shape as Graph};
 ghost use Rattle.wg_machine.specs.declared.shape.Unit.{Unit as Node};
 ghost use Rattle.wg_machine.specs.declared.launch.Entry.{Entry as Line};
@@ -10,7 +10,7 @@ ghost use Rattle.wg_machine.specs.Buffers.{Buffers, lengths_of};
 ghost use Rattle.wg_machine.specs.Bytes.{KeepsSlots, live_bytes, plan_bytes};
 ghost use Rattle.wg_machine.specs.Choice.{SomeHasRoom};
 ghost use Rattle.wg_words.specs.Each.{Each};
-ghost use Rattle.wg_machine.specs.Fitting.{BagFits, StateFits, IsLawful};
+ghost use Rattle.wg_machine.specs.Fitting.{BagFits, StateFits, IsLawful, SendsOne, OnlyThreads};
 ghost use Rattle.wg_machine.specs.Grids.{groups_of};
 ghost use Rattle.wg_machine.specs.GoodShape.{IsGoodShape};
 ghost use Rattle.wg_machine.specs.LaunchMeaning.{Meaning, Outcome, Arrives, FitsShape, KeepsBudgets, KeepsLaws};
@@ -93,4 +93,13 @@ pub fn runs_end_alike()
         → IsRun shape made turns (start shape script buffers) entries trail final → IsComplete final
         → IsRun shape made turns (start shape script buffers) others trail_of_others final_of_others → IsComplete final_of_others
         → final.buffers ≡ final_of_others.buffers }
+{}
+
+/// Where each node is a thread node that sends at most one record, a run has at most 32 launches for each entry record.
+pub fn chains_are_short()
+    ensures { (shape : Graph) (made : Meaning) (turns : ℕ) (script : List Record) (buffers : Buffers)
+        (entries : List Line) (trail : List Passed) (final : State)
+        → IsGoodShape shape → IsLawful shape made → OnlyThreads shape → SendsOne shape made → Each (Arrives shape) script
+        → IsRun shape made turns (start shape script buffers) entries trail final
+        → length entries ≤ 32 * length script }
 {}

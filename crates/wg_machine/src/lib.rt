@@ -13,8 +13,9 @@ pub use launch::{
     SentList,
 };
 pub use laws::{
-    allowed_launches_fit, each_once, needs_are_kept, no_group_twice, runs_end_alike,
-    runs_end_with_totals, runs_fit, sent_goes_deeper, slots_hold_bytes, something_has_room,
+    allowed_launches_fit, chains_are_short, each_once, needs_are_kept, no_group_twice,
+    runs_end_alike, runs_end_with_totals, runs_fit, sent_goes_deeper, slots_hold_bytes,
+    something_has_room,
 };
 pub use memory::{Atomic, Memory, ReadLog, Seen, View, Write, Writes};
 pub use shape::{Kind, NodeName, NodeNames, Output, Outputs, Shape, Targets, Unit, Units};

@@ -2,7 +2,12 @@
 #![tactic(auto)]
 
 mod files;
+mod mem;
+mod named;
 mod sink;
+mod take;
 
 pub use files::{FileFault, Files};
+pub use mem::{MemFiles, MemSink};
+pub use named::NamedFiles;
 pub use sink::{Failed, Sink};

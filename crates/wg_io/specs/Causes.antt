@@ -1,9 +1,6 @@
--- Counts that say why a call failed. All of this is the project's own rule.
-use Rattle.std.specs.Prelude.{◌≡◌, ◌-◌, ◌+◌, ◌^◌, ◌≤◌, min, ℕ, List, ◌++◌, Option, Some, IfSome}
-
--- a count stands once it has reached this value, which is the greatest of a `u64`
-abbrev pub last_count : ℕ
-last_count = 2 ^ 64 - 1
+-- Counts that say why a call failed. This is the project's own rule.
+use Rattle.std.specs.Prelude.{◌≡◌, ◌+◌, ◌≤◌, min, ℕ, List, ◌++◌, Option, Some, IfSome}
+use Rattle.wg_io.specs.Counts.{last_count}
 
 -- the count rose by more than n, or stands at its last value
 abbrev pub RoseBeyond : ℕ → ℕ → ℕ → Type 0

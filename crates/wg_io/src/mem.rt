@@ -17,7 +17,7 @@ pub struct MemFiles {
 }
 
 impl Model for MemFiles {
-    ghost use Rattle.wg_io.specs.Held.{HeldFiles};
+    ghost use Rattle.wg_io.specs.MemFiles.{HeldFiles};
 
     ghost Value = { HeldFiles };
 
@@ -40,7 +40,7 @@ impl MemFiles {
 }
 
 impl Files for MemFiles {
-    ghost use Rattle.wg_io.specs.Held.{next_read, after_read};
+    ghost use Rattle.wg_io.specs.MemFiles.{next_read, after_read};
     ghost use Rattle.wg_io.specs.Named.{bytes_under};
 
     ghost told = { λ mem name. bytes_under mem.files name };
@@ -78,7 +78,7 @@ pub struct MemSink {
 }
 
 impl Model for MemSink {
-    ghost use Rattle.wg_io.specs.Held.{HeldText};
+    ghost use Rattle.wg_io.specs.MemSink.{HeldText};
 
     ghost Value = { HeldText };
 
@@ -107,7 +107,8 @@ impl MemSink {
 }
 
 impl Sink for MemSink {
-    ghost use Rattle.wg_io.specs.Held.{next_fails, after_write, after_fault};
+    ghost use Rattle.wg_io.specs.Counts.{next_fails};
+    ghost use Rattle.wg_io.specs.MemSink.{after_write, after_fault};
 
     ghost written = { λ mem. Some mem.bytes };
 

@@ -15,3 +15,6 @@ pub use named::NamedFiles;
 pub use no_fault::{NoFaultFiles, NoFaultSink};
 pub use real::{RealFiles, RealSink};
 pub use sink::{Failed, Sink};
+
+#[cfg(test)]
+mod tests;

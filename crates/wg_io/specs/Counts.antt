@@ -1,4 +1,4 @@
--- Counts of 64 bits. This is the project's own rule.
+-- Counts of calls, of faults and of bytes, of 64 bits each. This is the project's own rule.
 use Rattle.std.specs.Prelude.{ℕ, ◌+◌, ◌-◌, ◌^◌, ◌==◌, Bool, min, List}
 use Rattle.std.specs.List.{list_any}
 

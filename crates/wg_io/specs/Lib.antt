@@ -4,4 +4,4 @@ pub mod MemFiles
 pub mod MemSink
 pub mod Named
 pub mod NoFaultFiles
-pub mod Real
+pub mod RealFiles

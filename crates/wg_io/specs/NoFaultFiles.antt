@@ -3,10 +3,10 @@ use Rattle.std.specs.Prelude.{ℕ, List, [], unwrap_or}
 use Rattle.wg_io.specs.Named.{bytes_under}
 
 -- named files, with the count of the bytes that were taken
-pub record SoundFiles : Type 0 where
+pub record CountedFiles : Type 0 where
   pub files : List (List ℕ × List ℕ)
   pub taken : ℕ
 
 -- the bytes under a name, which are none where the name is not there
-abbrev pub bytes_or_none : SoundFiles → List ℕ → List ℕ
-bytes_or_none sound name = unwrap_or (bytes_under sound.files name) []
+abbrev pub bytes_or_empty : CountedFiles → List ℕ → List ℕ
+bytes_or_empty counted name = unwrap_or (bytes_under counted.files name) []

@@ -13,11 +13,11 @@ pub struct NoFaultFiles {
 }
 
 impl Model for NoFaultFiles {
-    ghost use Rattle.wg_io.specs.NoFaultFiles.{SoundFiles};
+    ghost use Rattle.wg_io.specs.NoFaultFiles.{CountedFiles};
 
-    ghost Value = { SoundFiles };
+    ghost Value = { CountedFiles };
 
-    ghost view = { λ sound. record { files = sound.files; taken = sound.taken } };
+    ghost view = { λ files. record { files = files.files; taken = files.taken } };
 }
 
 impl NoFaultFiles {
@@ -30,19 +30,19 @@ impl NoFaultFiles {
 
 impl Files for NoFaultFiles {
     ghost use Rattle.wg_io.specs.Counts.{raised, taken_of};
-    ghost use Rattle.wg_io.specs.NoFaultFiles.{bytes_or_none};
+    ghost use Rattle.wg_io.specs.NoFaultFiles.{bytes_or_empty};
 
-    ghost told = { λ sound name. Some (bytes_or_none sound name) };
+    ghost told = { λ counted name. Some (bytes_or_empty counted name) };
 
     ghost faults = { λ _ _. 0 };
 
-    ghost taken = { λ sound _. sound.taken };
+    ghost taken = { λ counted _. counted.taken };
 
     fn read(&mut self, alloc: Global, name: &str, limit: u64) -> Result<Vec<u8>, FileFault>
-        ensures value { IfOk result (λ v. v.items ≡ bytes_or_none self.old name.now) }
-        ensures within { length (bytes_or_none self.old name.now) ≤ limit → IsOkUnless result FileFault.Memory }
-        ensures beyond { limit < length (bytes_or_none self.old name.now) → result ≡ Err (FileFault.TooLong limit) }
-        ensures after { self.new ≡ record self.old { taken = raised self.old.taken (taken_of (length (bytes_or_none self.old name.now)) limit) } }
+        ensures value { IfOk result (λ v. v.items ≡ bytes_or_empty self.old name.now) }
+        ensures within { length (bytes_or_empty self.old name.now) ≤ limit → IsOkUnless result FileFault.Memory }
+        ensures beyond { limit < length (bytes_or_empty self.old name.now) → result ≡ Err (FileFault.TooLong limit) }
+        ensures after { self.new ≡ record self.old { taken = raised self.old.taken (taken_of (length (bytes_or_empty self.old name.now)) limit) } }
         ensures no_byte_is_lost { self.old.taken ≤ self.new.taken }
     {
         let bytes = self.files.find(name).unwrap_or(&[]);

@@ -1,5 +1,6 @@
 ghost use Rattle.std.specs.Prelude.{◌≡◌, ◌≤◌, ◌+◌, ℕ, None, length, IfOk, IsErrOf};
 ghost use Rattle.wg_io.specs.Causes.{Rose, RoseBeyond};
+ghost use Rattle.wg_io.specs.Counts.{raised};
 
 use crate::take::read_within;
 use crate::{Failed, FileFault, Files, Sink};
@@ -9,7 +10,7 @@ use std::marker::Model;
 use std::rt::Files as SystemFiles;
 use std::{fs, io};
 
-/// The files of the system. What they hold is not told.
+/// The files of the system. What they hold is not told; contracts see the two counts.
 #[derive(Drop)]
 pub struct RealFiles<'a, R> {
     rt: &'a R,
@@ -18,7 +19,7 @@ pub struct RealFiles<'a, R> {
 }
 
 impl<'a, R> Model for RealFiles<'a, R> {
-    ghost use Rattle.wg_io.specs.Real.{FileCounts};
+    ghost use Rattle.wg_io.specs.RealFiles.{FileCounts};
 
     ghost Value = { FileCounts };
 
@@ -50,6 +51,7 @@ impl<R: SystemFiles> Files for RealFiles<'_, R> {
         ensures failed { IsErrOf result FileFault.Failed → Rose self.old.faults self.new.faults }
         ensures given { (n : ℕ) → IsErrOf result (FileFault.TooLong n) → n ≡ limit }
         ensures beyond { IsErrOf result (FileFault.TooLong limit) → RoseBeyond limit self.old.taken self.new.taken }
+        ensures counted { IfOk result (λ v. raised self.old.taken (length v.items) ≤ self.new.taken) }
         ensures stops { self.new.taken ≤ self.old.taken + (limit + 1) }
         ensures no_fault_is_lost { self.old.faults ≤ self.new.faults }
         ensures no_byte_is_lost { self.old.taken ≤ self.new.taken }
@@ -65,7 +67,7 @@ impl<R: SystemFiles> Files for RealFiles<'_, R> {
     }
 }
 
-/// Standard output. What was written is not told.
+/// Standard output. What was written is not told; contracts see the count of faults.
 #[derive(Drop)]
 pub struct RealSink<'a, R> {
     rt: &'a R,

@@ -90,7 +90,7 @@ named_ready shape bag e l n =
 pub named_records : (shape : Shape) (bag : List Live) (e : Entry) (l : Launch) → IsNamed shape bag e l → l.records ≡ map record_of (taken e.inputs bag)
 named_records shape bag e l n = let a = n.allowed in a.records ∙ ap (λ (ns : List ℕ). map record_of (taken ns bag)) n.inputs
 
-named_grid : (shape : Shape) (bag : List Live) (e : Entry) (l : Launch) → IsNamed shape bag e l → l.grid ≡ first_grid (kind_at shape e.unit) (map record_of (taken e.inputs bag))
+pub named_grid : (shape : Shape) (bag : List Live) (e : Entry) (l : Launch) → IsNamed shape bag e l → l.grid ≡ first_grid (kind_at shape e.unit) (map record_of (taken e.inputs bag))
 named_grid shape bag e l n =
     let a = n.allowed in
     first_is (kind_at shape l.unit) l.grid l.records a.some a.grid

@@ -96,7 +96,7 @@ word_past : (m : Buffers) (ws : List Write) (b w : ℕ) → length (buffer_at m 
 word_past m ws b w h = let n = all_written_length m ws b in index_past (buffer_at (all_written m ws) b) w (omega arith)
 
 -- the words of a buffer are as many as its length says
-length_at : (m : Buffers) (b : ℕ) → length (buffer_at m b) ≡ slice_index (map (λ (x : List ℕ). length x) m) b
+pub length_at : (m : Buffers) (b : ℕ) → length (buffer_at m b) ≡ slice_index (map (λ (x : List ℕ). length x) m) b
 length_at [] b = refl
 length_at (x ∷ m) zero = refl
 length_at (x ∷ m) (suc b) = length_at m b

@@ -6,4 +6,5 @@
 mod bag;
 mod changes;
 mod grid;
+mod steps;
 mod traced;

@@ -6,5 +6,11 @@
 mod bag;
 mod changes;
 mod grid;
+mod laws;
+mod replays;
 mod steps;
 mod traced;
+
+pub use laws::one_run;
+pub use replays::{Replayed, replay};
+pub use steps::Rest;

@@ -1,5 +1,5 @@
 -- Steps and runs: an entry is a step in at most one way, and a run in at most one way.
-use Rattle.std.proofs.Common.{◌≡◌, ℕ, zero, suc, ◌+◌, ◌<◌, ◌≤◌, List, [], ◌∷◌, ◌++◌, length, take, get_or, Some, None, Option, refl, ap, sym, ◌∙◌, subst, arith}
+use Rattle.std.proofs.Common.{◌≡◌, ℕ, zero, suc, ◌+◌, ◌<◌, List, [], ◌∷◌, ◌++◌, length, take, get_or, Some, None, Option, refl, ap, sym, ◌∙◌, subst, arith}
 use Rattle.std.specs.Prelude.{if◌then◌else◌, ◌==◌, max, slice_get, sum_by}
 use Rattle.std.proofs.lemmas.List.Sums.{sum_by-append}
 use Rattle.wg_machine.specs.declared.shape.Shape.{Shape}
@@ -9,7 +9,7 @@ use Rattle.wg_machine.specs.Bytes.{live_bytes, peak}
 use Rattle.wg_machine.specs.LaunchMeaning.{Meaning, Outcome}
 use Rattle.wg_machine.specs.Run.{IsRun, denied_of}
 use Rattle.wg_machine.specs.State.{State}
-use Rattle.wg_machine.specs.Step.{Passed, Step, entry_of, state_after}
+use Rattle.wg_machine.specs.Step.{Passed, Step, state_after}
 use Rattle.wg_plain.specs.Named.{IsNamed}
 use Rattle.wg_plain.proofs.Found.{one_named}
 

@@ -1,6 +1,6 @@
 -- What a good shape bounds: the groups of a grid, the bytes of a slot, the records of one launch.
-use Rattle.std.proofs.Common.{◌≡◌, ℕ, zero, suc, ◌+◌, ◌*◌, ◌<◌, ◌≤◌, ◌^◌, Bool, true, false, cond, List, [], ◌∷◌, length, refl, ap, sym, ◌∙◌, subst, arith, Option, Some, None, inl, inr, ◌⊎◌}
-use Rattle.std.specs.Prelude.{if◌then◌else◌, ◌==◌, nat_lt, min, max, slice_get, slice_index, slice_index_or, unwrap_or, Contains, count_by, sum_by}
+use Rattle.std.proofs.Common.{◌≡◌, ℕ, zero, suc, ◌+◌, ◌*◌, ◌<◌, ◌≤◌, ◌^◌, Bool, true, false, cond, List, [], ◌∷◌, length, refl, ap, ◌∙◌, arith, Option, Some, None}
+use Rattle.std.specs.Prelude.{if◌then◌else◌, ◌==◌, nat_lt, min, slice_get, slice_index, slice_index_or, unwrap_or, Contains, count_by, sum_by}
 use Rattle.std.specs.Option.{option_map}
 use Rattle.std.proofs.Math.Nat.{mul-le-mul}
 use Rattle.std.proofs.lemmas.Bool.Decides.{nat_tests}
@@ -14,7 +14,7 @@ use Rattle.wg_machine.specs.declared.shape.Unit.{Unit}
 use Rattle.wg_machine.specs.declared.launch.Sent.{Sent}
 use Rattle.wg_machine.specs.GoodShape.{IsBetween, IsGoodKind, IsGoodShape}
 use Rattle.wg_machine.specs.Grids.{clipped, grid_of, groups_in}
-use Rattle.wg_machine.specs.LaunchMeaning.{GoesThrough, AllGoThrough, KeepsBudgets}
+use Rattle.wg_machine.specs.LaunchMeaning.{AllGoThrough, KeepsBudgets}
 use Rattle.wg_machine.specs.Units.{kind_at, stride_at}
 
 -- grids

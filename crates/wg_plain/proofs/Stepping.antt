@@ -1,5 +1,5 @@
 -- A step of an entry: what it leaves is sound.
-use Rattle.std.proofs.Common.{◌≡◌, ℕ, suc, ◌+◌, ◌<◌, ◌≤◌, ◌^◌, Bool, true, false, ◌||◌, List, [], ◌∷◌, ◌++◌, length, map, Some, None, Option, refl, ap, sym, ◌∙◌, subst, arith}
+use Rattle.std.proofs.Common.{◌≡◌, ℕ, ◌+◌, ◌<◌, ◌≤◌, ◌^◌, Bool, true, false, ◌||◌, List, [], ◌∷◌, ◌++◌, length, map, Some, None, refl, ap, sym, ◌∙◌, subst, arith}
 use Rattle.std.specs.Prelude.{IsTrue, if◌then◌else◌, ◌==◌, max, slice_index}
 use Rattle.std.specs.List.{flat_map}
 use Rattle.std.proofs.lemmas.List.{length-append}
@@ -20,7 +20,7 @@ use Rattle.wg_machine.specs.Bytes.{live_bytes}
 use Rattle.wg_machine.specs.GoodShape.{IsGoodShape}
 use Rattle.wg_machine.specs.Grids.{grid_of, groups_in, groups_of, place_of, has_group, same_group, without_group}
 use Rattle.wg_machine.specs.LaunchMeaning.{Meaning, Outcome, FitsShape, HasGridOf, Arrives, KeepsLaws, Makes, Spends, outcome_of}
-use Rattle.wg_machine.specs.State.{State, born, kept, live_of, start}
+use Rattle.wg_machine.specs.State.{State, born, kept, live_of}
 use Rattle.wg_machine.specs.Step.{Passed, Step, IsReady, numbers_of, record_of, taken, left_after, is_among, entry_of, state_after}
 use Rattle.wg_machine.specs.Units.{kind_at, words_at}
 use Rattle.wg_plain.specs.declared.steps.Rest.{Rest}

@@ -1,5 +1,5 @@
 -- What a step of the plain program comes to.
-use Rattle.std.specs.Prelude.{◌≡◌, ℕ, ◌+◌, ◌≤◌, ◌^◌, max, List, length, Option, Some, None}
+use Rattle.std.specs.Prelude.{◌≡◌, ℕ, ◌+◌, ◌≤◌, ◌^◌, max, length, Option, Some, None}
 use Rattle.wg_words.specs.Each.{Each}
 use Rattle.wg_machine.specs.declared.shape.Shape.{Shape}
 use Rattle.wg_machine.specs.declared.launch.Entry.{Entry}

@@ -15,9 +15,7 @@ use wg_words::Words;
 #[derive(Debug, Drop)]
 pub enum Replayed {
     Run(Rest),
-    NoStep {
-        entry: u64,
-    },
+    NoStep { entry: u64 },
 }
 
 /// Makes a run of entries, from the start of a script, one step after another.

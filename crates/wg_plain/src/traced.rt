@@ -85,33 +85,15 @@ fn changed(op: Atomic, old: Word, compare: Word, value: Word) -> Word
 {
     match op {
         Atomic::Min => old.min(value),
-        Atomic::MinSigned => {
-            if rank(value) < rank(old) {
-                value
-            } else {
-                old
-            }
-        }
+        Atomic::MinSigned => { if rank(value) < rank(old) { value } else { old } }
         Atomic::Max => old.max(value),
-        Atomic::MaxSigned => {
-            if rank(old) < rank(value) {
-                value
-            } else {
-                old
-            }
-        }
+        Atomic::MaxSigned => { if rank(old) < rank(value) { value } else { old } }
         Atomic::And => old & value,
         Atomic::Or => old | value,
         Atomic::Xor => old ^ value,
         Atomic::Add => old.wrapping_add(value),
         Atomic::Exchange => value,
-        Atomic::CompareExchange => {
-            if old == compare {
-                value
-            } else {
-                old
-            }
-        }
+        Atomic::CompareExchange => { if old == compare { value } else { old } }
     }
 }
 

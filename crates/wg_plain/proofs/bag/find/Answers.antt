@@ -1,8 +1,6 @@
-use Rattle.std.proofs.Common.{◌≡◌, ◌≤◌, ◌<◌, ℕ, List, ap, sym, refl, ◌∙◌, arith, true, false, length, map}
+use Rattle.std.proofs.Common.{◌≡◌, ◌≤◌, ℕ, List, ap, sym, refl, ◌∙◌, arith, true, false, length, map}
 use Rattle.wg_machine.specs.declared.shape.Kind.{Kind}
 use Rattle.wg_machine.specs.declared.launch.Launch.{Launch}
-use Rattle.wg_machine.specs.declared.launch.Record.{Record}
-use Rattle.wg_machine.specs.Grids.{groups_in, place_of}
 use Rattle.wg_machine.specs.Step.{numbers_of, record_of, taken}
 use Rattle.wg_machine.specs.Units.{kind_at, most_inputs}
 use Rattle.wg_plain.specs.Named.{are_ready, first_grid}

@@ -1,6 +1,5 @@
 use Rattle.std.proofs.Common.{◌≡◌, ◌∙◌, ap, sym, List, ℕ}
 use Rattle.std.specs.Prelude.{position}
-use Rattle.std.specs.List.{remove}
 use Rattle.wg_machine.specs.Grids.{same_group, without_group}
 use Rattle.wg_plain.proofs.Leaving.{place_found, place_missing}
 use Rattle.wg_plain.proofs.changes.without.Goals as goal

@@ -1,4 +1,4 @@
-use Rattle.std.proofs.Common.{◌≡◌, ◌∙◌, ◌++◌, ap, List, length, arith}
+use Rattle.std.proofs.Common.{◌≡◌, ◌∙◌, ◌++◌, ap, List, arith}
 use Rattle.std.specs.List.{flat_map}
 use Rattle.wg_machine.specs.declared.launch.Live.{Live}
 use Rattle.wg_machine.specs.declared.launch.Sent.{Sent}

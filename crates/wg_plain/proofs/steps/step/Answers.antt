@@ -1,4 +1,4 @@
-use Rattle.std.proofs.Common.{◌≡◌, ◌∙◌, ◌<◌, ◌≤◌, ◌+◌, ◌^◌, ◌++◌, refl, ap, sym, subst, List, ℕ, Option, Some, None, length, arith, true, false}
+use Rattle.std.proofs.Common.{◌≡◌, ◌∙◌, ◌≤◌, ◌++◌, ap, sym, subst, List, ℕ, Option, Some, None, length, arith, true, false}
 use Rattle.std.specs.Prelude.{if◌then◌else◌, ◌==◌, max}
 use Rattle.std.specs.List.{flat_map}
 use Rattle.wg_machine.specs.declared.shape.Shape.{Shape}

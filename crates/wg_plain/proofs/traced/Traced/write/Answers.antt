@@ -1,4 +1,4 @@
-use Rattle.std.proofs.Common.{ap, sym, ◌∙◌, List, ℕ}
+use Rattle.std.proofs.Common.{ap, sym, ◌∙◌}
 use Rattle.wg_machine.specs.Buffers.{Buffers, written, all_written}
 use Rattle.wg_plain.proofs.Words.{written_append}
 use Rattle.wg_plain.proofs.traced.Traced.write.Goals as goal

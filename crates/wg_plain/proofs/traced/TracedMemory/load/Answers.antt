@@ -1,4 +1,4 @@
-use Rattle.std.proofs.Common.{ap, ◌∙◌, subst, List, ℕ}
+use Rattle.std.proofs.Common.{ap, ◌∙◌, subst}
 use Rattle.wg_machine.specs.Agreement.{Agrees}
 use Rattle.wg_machine.specs.Buffers.{Buffers, lengths_of, word_at}
 use Rattle.wg_plain.proofs.Words.{read_is}

@@ -9,6 +9,8 @@ mod grid;
 mod laws;
 mod replays;
 mod steps;
+#[cfg(test)]
+mod tests;
 mod traced;
 
 pub use laws::one_run;

@@ -1,0 +1,6 @@
+pub mod Fitting
+pub mod Named
+pub mod Relay
+pub mod RelayLaws
+pub mod Rests
+pub mod Stepped

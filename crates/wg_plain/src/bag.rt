@@ -1,0 +1,135 @@
+ghost use Rattle.std.specs.Prelude.{◌≡◌, ◌↔◌, IsTrue, IfOk, map};
+ghost use Rattle.wg_words.specs.Each.{Each};
+ghost use Rattle.wg_machine.specs.GoodShape.{IsGoodShape};
+ghost use Rattle.wg_machine.specs.Grids.{has_group};
+ghost use Rattle.wg_machine.specs.Step.{is_among, numbers_of, record_of, taken};
+ghost use Rattle.wg_machine.specs.Units.{kind_at, most_inputs};
+ghost use Rattle.wg_plain.specs.Fitting.{IsFitting};
+ghost use Rattle.wg_plain.specs.Named.{are_ready, first_grid, FoundIs};
+
+use crate::grid::{grid_for, is_same, place};
+use std::alloc::{AllocError, Global};
+use wg_machine::{Entry, Kind, Launch, Live, Record, Records, Shape};
+use wg_words::TryCopy;
+
+/// The kind of a unit, thread launch where the shape has no such unit.
+pub fn kind_of(shape: &Shape, unit: u32) -> Kind
+    ensures { result ≡ kind_at shape.now unit }
+{
+    match shape.units.get(unit as usize) {
+        Some(node) => node.kind,
+        None => Kind::Thread,
+    }
+}
+
+fn most_of(kind: Kind) -> u32
+    ensures { result ≡ most_inputs kind }
+{
+    match kind {
+        Kind::Coalescing { most } => most,
+        _ => 1,
+    }
+}
+
+/// Whether a number is among others.
+pub fn is_listed(numbers: &[u64], number: u64) -> bool
+    ensures { result ≡ is_among numbers.now number }
+{
+    numbers.iter().any(|n| *n == number)
+}
+
+fn stands_in(groups: &[[u32; 3]], at: &[u32; 3]) -> bool
+    ensures { result ≡ has_group groups.now at.now }
+{
+    groups.iter().any(|group| is_same(group, at))
+}
+
+fn all_ready(bag: &[Live], numbers: &[u64], unit: u32, at: &[u32; 3]) -> bool
+    ensures { result ≡ are_ready numbers.now unit at.now bag.now }
+{
+    bag.iter().all(|live| {
+        !is_listed(numbers, live.number)
+            || (live.unit == unit && stands_in(live.groups.as_slice(), at))
+    })
+}
+
+fn record_in(alloc: Global, live: &Live) -> Result<Record, AllocError>
+    ensures { IfOk result (λ record'. record' ≡ record_of live.now) }
+{
+    Ok(Record {
+        number: live.number,
+        words: live.words.copy(alloc)?,
+    })
+}
+
+fn records_taken(alloc: Global, bag: &[Live], numbers: &[u64]) -> Result<Records, AllocError>
+    ensures { IfOk result (λ records. records ≡ map record_of (taken numbers.now bag.now)) }
+{
+    let mut records = Records::new(alloc);
+    for live in bag {
+        if is_listed(numbers, live.number) {
+            records.push(record_in(alloc, live)?)?;
+        }
+    }
+    Ok(records)
+}
+
+fn are_numbers(records: &[Record], numbers: &[u64]) -> bool
+    ensures { IsTrue result ↔ (numbers_of records.now ≡ numbers.now) }
+{
+    if records.len() != numbers.len() {
+        return false;
+    }
+    for (i, number) in numbers.iter().enumerate() {
+        if records[i].number != *number {
+            return false;
+        }
+    }
+    true
+}
+
+fn grid_of_first(kind: Kind, records: &[Record]) -> [u32; 3]
+    ensures { result ≡ first_grid kind records.now }
+{
+    match records.first() {
+        Some(first) => grid_for(kind, first.words.as_slice()),
+        None => [1, 1, 1],
+    }
+}
+
+/// The launch that an entry names, if the bag allows it.
+pub fn find(
+    alloc: Global,
+    shape: &Shape,
+    bag: &[Live],
+    entry: &Entry,
+) -> Result<Option<Launch>, AllocError>
+    requires good { IsGoodShape shape.now }
+    requires fitting { Each (IsFitting shape.now) bag.now }
+    ensures { IfOk result (FoundIs shape.now bag.now entry.now) }
+{
+    let kind = kind_of(shape, entry.unit);
+    let numbers = entry.inputs.as_slice();
+    if numbers.is_empty() {
+        return Ok(None);
+    }
+    if numbers.len() > most_of(kind) as usize {
+        return Ok(None);
+    }
+    if !all_ready(bag, numbers, entry.unit, &entry.at) {
+        return Ok(None);
+    }
+    let records = records_taken(alloc, bag, numbers)?;
+    if !are_numbers(records.as_slice(), numbers) {
+        return Ok(None);
+    }
+    let grid = grid_of_first(kind, records.as_slice());
+    let group = place(&grid, &entry.at);
+    Ok(Some(Launch {
+        unit: entry.unit,
+        records,
+        group,
+        grid,
+        last: false,
+    }))
+}

@@ -1,0 +1,7 @@
+//! The shared buffers of a run: lists of words that writes change.
+#![tactic(auto)]
+
+mod buffer;
+mod buffers;
+
+pub use buffers::{Buffers, Snapshot};

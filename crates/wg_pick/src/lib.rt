@@ -1,0 +1,6 @@
+//! The pick of the unit to launch next: the deepest that waits and has room, then the least.
+#![tactic(auto)]
+
+mod picker;
+
+pub use picker::Picker;

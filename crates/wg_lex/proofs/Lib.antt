@@ -1,0 +1,9 @@
+pub mod CommentEnds
+pub mod Cutting
+pub mod FrontAnswers
+pub mod FrontRules
+pub mod Longest
+pub mod MarkSizes
+pub mod NumberSizes
+pub mod Places
+pub mod Runs

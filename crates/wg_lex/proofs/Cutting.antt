@@ -34,12 +34,16 @@ begins_append : (text : List ℕ) (ps qs : List Piece) → BeginsWith text ps �
 begins_append text [] qs h k = k
 begins_append text (p ∷ ps) qs h k = (h.0, begins_append (drop p.size text) ps qs h.1 (subst (λ z. BeginsWith z qs) (sym (drop_add p.size (size_of ps) text)) k))
 
+cons_append : (text : List ℕ) (at : ℕ) (m : Matter) (n : ℕ) (ps qs : List Piece) (later : List Token) → tokens_of text (at + n) (ps ++ qs) ≡ tokens_of text (at + n) ps ++ later
+  → tokens_of text at (record { matter = m; size = n } ∷ (ps ++ qs)) ≡ tokens_of text at (record { matter = m; size = n } ∷ ps) ++ later
+cons_append text at blank n ps qs later h = h
+cons_append text at comment n ps qs later h = h
+cons_append text at (token kind) n ps qs later h = ap (λ z. record { kind = kind; place = place_after (take at text); from = at; to = at + n } ∷ z) h
+
 tokens_append : (text : List ℕ) (at : ℕ) (ps qs : List Piece) → tokens_of text at (ps ++ qs) ≡ tokens_of text at ps ++ tokens_of text (at + size_of ps) qs
 tokens_append text at [] qs = let e : at ≡ at + 0 = omega arith in ap (λ z. tokens_of text z qs) e
-tokens_append text at (record { matter = blank; size = n } ∷ ps) qs = tokens_append text (at + n) ps qs ∙ (let e : at + n + size_of ps ≡ at + (n + size_of ps) = omega arith in ap (λ z. tokens_of text (at + n) ps ++ tokens_of text z qs) e)
-tokens_append text at (record { matter = comment; size = n } ∷ ps) qs = tokens_append text (at + n) ps qs ∙ (let e : at + n + size_of ps ≡ at + (n + size_of ps) = omega arith in ap (λ z. tokens_of text (at + n) ps ++ tokens_of text z qs) e)
-tokens_append text at (record { matter = token kind; size = n } ∷ ps) qs = ap (λ z. record { kind = kind; place = place_after (take at text); from = at; to = at + n } ∷ z)
-    (tokens_append text (at + n) ps qs ∙ (let e : at + n + size_of ps ≡ at + (n + size_of ps) = omega arith in ap (λ z. tokens_of text (at + n) ps ++ tokens_of text z qs) e))
+tokens_append text at (p ∷ ps) qs = cons_append text at p.matter p.size ps qs (tokens_of text (at + (p.size + size_of ps)) qs)
+    (tokens_append text (at + p.size) ps qs ∙ (let e : at + p.size + size_of ps ≡ at + (p.size + size_of ps) = omega arith in ap (λ z. tokens_of text (at + p.size) ps ++ tokens_of text z qs) e))
 
 -- of two lists of pieces the shorter begins the other
 abbrev GoesOn : List ℕ → List Piece → List Piece → Type 0
@@ -87,18 +91,20 @@ between text at there p found h l (qs, k, e) above below =
     inner (q ∷ qs) b some less = let sizes : q.size ≡ p.size = ap (λ z. z.size) (one_longest (drop at text) q p b.0 l) in omega arith
 
 pub step : (text : List ℕ) (at : ℕ) (p : Piece) (found : List Token) → IsLongest (drop at text) p → ((rule : LexicalRule) → IsBroken rule (take at text) (drop at text) → ⊥) → SoFar text at found
-  → SoFar text (at + p.size) (found ++ tokens_of text at (p ∷ []))
+    → SoFar text (at + p.size) (found ++ tokens_of text at (p ∷ []))
 step text at p found l unbroken h = record {
-    pieces = h.pieces ++ p ∷ [];
-    begins = begins_append text h.pieces (p ∷ []) h.begins (subst (λ z. IsLongest (drop z text) p) (sym h.size) l, tt);
-    size = size_append h.pieces (p ∷ []) ∙ (let e = h.size in omega arith);
-    tokens = (let e : 0 + size_of h.pieces ≡ at = (let s = h.size in omega arith) in
-        ap (λ z. z ++ tokens_of text at (p ∷ [])) h.tokens ∙ ap (λ z. tokens_of text 0 h.pieces ++ tokens_of text z (p ∷ [])) (sym e) ∙ sym (tokens_append text 0 h.pieces (p ∷ [])));
-    inside = (let i = l.inside in let j = h.inside in let d = length-drop at text in omega arith);
-    clean = λ rule there below b. elim (order there at)
-        [ inl less ↦ h.clean rule there less b
-        | inr (inl more) ↦ between text at there p found h l b.0 more below
-        | inr (inr same) ↦ unbroken rule (subst (λ z. IsBroken rule (take z text) (drop z text)) same b.1) ] }
+  pieces = h.pieces ++ p ∷ [];
+  begins = begins_append text h.pieces (p ∷ []) h.begins (subst (λ z. IsLongest (drop z text) p) (sym h.size) l, tt);
+  size = size_append h.pieces (p ∷ []) ∙ (let e = h.size in omega arith);
+  tokens = (let e : 0 + size_of h.pieces ≡ at = (let s = h.size in omega arith) in
+      ap (λ z. z ++ tokens_of text at (p ∷ [])) h.tokens ∙ ap (λ z. tokens_of text 0 h.pieces ++ tokens_of text z (p ∷ [])) (sym e) ∙ sym (tokens_append text 0 h.pieces (p ∷ [])));
+  inside = (let i = l.inside in let j = h.inside in let d = length-drop at text in omega arith);
+  clean = λ rule there below b. elim (order there at) [
+    | inl less ↦ h.clean rule there less b
+    | inr (inl more) ↦ between text at there p found h l b.0 more below
+    | inr (inr same) ↦ unbroken rule (subst (λ z. IsBroken rule (take z text) (drop z text)) same b.1)
+  ];
+}
 
 -- ---- the end
 
@@ -127,18 +133,21 @@ unbroken_end open_comment before h = let e = h.0 in cc
 unbroken_end stray_byte before h = let e = h.0 in omega arith
 
 pub unbroken : (text : List ℕ) (at : ℕ) (found : List Token) → length text ≤ at → SoFar text at found → BreaksNone text
-unbroken text at found e h rule there b = elim (order there at)
-    [ inl less ↦ h.clean rule there less b
-    | inr (inl more) ↦ unbroken_end rule (take there text) (subst (λ z. IsBroken rule (take there text) z) (drop_all text there (omega arith)) b.1)
-    | inr (inr same) ↦ unbroken_end rule (take there text) (subst (λ z. IsBroken rule (take there text) z) (drop_all text there (omega arith)) b.1) ]
+unbroken text at found e h rule there b = elim (order there at) [
+  | inl less ↦ h.clean rule there less b
+  | inr (inl more) ↦ unbroken_end rule (take there text) (subst (λ z. IsBroken rule (take there text) z) (drop_all text there (omega arith)) b.1)
+  | inr (inr same) ↦ unbroken_end rule (take there text) (subst (λ z. IsBroken rule (take there text) z) (drop_all text there (omega arith)) b.1)
+]
 
 -- ---- a broken rule
 
 pub fault : (text : List ℕ) (at : ℕ) (found : List Token) (rule : LexicalRule) → SoFar text at found → IsBroken rule (take at text) (drop at text)
-  → ((other : LexicalRule) → IsBroken other (take at text) (drop at text) → rule_number rule ≤ rule_number other) → BreaksFirst text rule at
+    → ((other : LexicalRule) → IsBroken other (take at text) (drop at text) → rule_number rule ≤ rule_number other) → BreaksFirst text rule at
 fault text at found rule h broken least = record {
-    broken = ((h.pieces, h.begins, h.size), broken);
-    first = λ other there b. elim (order there at)
-        [ inl less ↦ absurd (h.clean other there less b)
-        | inr (inl more) ↦ inl more
-        | inr (inr same) ↦ inr (sym same, least other (subst (λ z. IsBroken other (take z text) (drop z text)) same b.1)) ] }
+  broken = ((h.pieces, h.begins, h.size), broken);
+  first = λ other there b. elim (order there at) [
+    | inl less ↦ absurd (h.clean other there less b)
+    | inr (inl more) ↦ inl more
+    | inr (inr same) ↦ inr (sym same, least other (subst (λ z. IsBroken other (take z text) (drop z text)) same b.1))
+  ];
+}

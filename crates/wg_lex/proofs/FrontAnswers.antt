@@ -79,11 +79,11 @@ two_within (b ∷ c ∷ cs) y h p = omega arith
 
 pub front_of_line_comment : (text rest : List ℕ) (n : ℕ) → (get_or text 0 0 == 47 && get_or text 1 0 == 47) ≡ true → rest ≡ drop 2 text → n ≡ prefix_len (λ b. not (is_line_feed b)) rest
     → IsFront text (Skipped (n + 2))
-front_of_line_comment text rest n h after run = let b = both (get_or text 0 0) (get_or text 1 0) 47 47 h in inr (line_comment_is text rest n b.0 b.1 after run)
+front_of_line_comment text rest n h after run = let b = both (get_or text 0 0) (get_or text 1 0) 47 47 h in let is = line_comment_is text rest n b.0 b.1 after run in (inr is, λ opened. opened.1 (n + 2) is.inside is.is)
 
 pub front_of_block_comment : (text rest : List ℕ) (n : ℕ) → (get_or text 0 0 == 47 && get_or text 1 0 == 42) ≡ true → rest ≡ drop 2 text → Some n ≡ comment_end false rest
     → IsFront text (Skipped (n + 2))
-front_of_block_comment text rest n h after at = let b = both (get_or text 0 0) (get_or text 1 0) 47 42 h in inr (block_comment_is text rest n b.0 b.1 after at)
+front_of_block_comment text rest n h after at = let b = both (get_or text 0 0) (get_or text 1 0) 47 42 h in let is = block_comment_is text rest n b.0 b.1 after at in (inr is, λ opened. opened.1 (n + 2) is.inside is.is)
 
 pub front_of_open_comment : (text rest : List ℕ) → (get_or text 0 0 == 47 && get_or text 1 0 == 42) ≡ true → rest ≡ drop 2 text → None ≡ comment_end false rest → IsFront text OpenComment
 front_of_open_comment text rest h after at = (opens_comment text h, none text rest after at (both (get_or text 0 0) (get_or text 1 0) 47 42 h))
@@ -108,7 +108,10 @@ pub front_of_stray : (text : List ℕ) → 0 < length text → BeginsNoOther tex
 front_of_stray text some h none = (some, no_piece text h none)
 
 pub front_of_blank : (text : List ℕ) → 0 < length text → is_blank (get_or text 0 0) ≡ true → IsFront text (Skipped 1)
-front_of_blank text some h = inl (blank_is text some h)
+front_of_blank text some h = (inl (blank_is text some h), not_open text (blank_is_no_slash (get_or text 0 0) (get_or text 1 0 == 42) h))
+  where
+    blank_is_no_slash : (b : ℕ) (v : Bool) → is_blank b ≡ true → (b == 47 && v) ≡ false
+    blank_is_no_slash b v h = let e : (b == 47) ≡ false = grind (arith, nat_tests) in rw e refl
 
 pub is_no_quote : (b : ℕ) → b ≢ 34 → (b == 34) ≡ false
 is_no_quote b h = grind (arith, nat_tests)

@@ -77,7 +77,7 @@ wide_by_value text value size unsigned h above = (value, unsigned, size, h, inl 
 
 -- ---- no open comment
 
-first_open : (text : List ℕ) → take 2 text ≡ codes "/*" → (get_or text 0 0 ≡ 47) × (get_or text 1 0 ≡ 42)
+pub first_open : (text : List ℕ) → take 2 text ≡ codes "/*" → (get_or text 0 0 ≡ 47) × (get_or text 1 0 ≡ 42)
 first_open [] e = absurd (cc)
 first_open (b ∷ []) e = absurd (cc)
 first_open (b ∷ c ∷ cs) e = (cc, cc)

@@ -1,7 +1,9 @@
 pub mod CommentEnds
 pub mod Cutting
+pub mod FirstFaults
 pub mod FrontAnswers
 pub mod FrontRules
+pub mod LexAnswers
 pub mod Longest
 pub mod MarkSizes
 pub mod NumberSizes

@@ -49,7 +49,7 @@ blank_and true false = refl
 blank_and false w = refl
 
 one_more : (before : List ℕ) (b : ℕ) (v : Bool) → is_line_feed b ≡ v
-  → position_after (before ++ b ∷ []) ≡ (if v then position ((count_by is_line_feed before + 1) + 1) 1 true else position (count_by is_line_feed before + 1) ((suffix_len stays before + 1) + 1) (list_all is_blank (after_last is_line_feed before) && is_blank b))
+    → position_after (before ++ b ∷ []) ≡ (if v then position ((count_by is_line_feed before + 1) + 1) 1 true else position (count_by is_line_feed before + 1) ((suffix_len stays before + 1) + 1) (list_all is_blank (after_last is_line_feed before) && is_blank b))
 one_more before b true e = same_position _ _ _ _ _ _
     (let f : count_by is_line_feed (before ++ b ∷ []) ≡ count_by is_line_feed before + 1 = feeds_more before b ∙ ap (λ v. count_by is_line_feed before + cond v 1 0) e in ap (λ z. z + 1) f)
     (let s : suffix_len stays (before ++ b ∷ []) ≡ 0 = suffix_more stays before b ∙ ap (λ v. cond (not v) (1 + suffix_len stays before) 0) e in ap (λ z. z + 1) s)

@@ -4,6 +4,7 @@ ghost use Rattle.wg_tree.specs.Cut.{Cuts};
 ghost use Rattle.wg_tree.specs.LexicalRules.{BreaksNone, most_bytes};
 ghost use Rattle.wg_tree.specs.declared.token.Token.{Token};
 ghost use Rattle.wg_lex.specs.Faults.{IsFault};
+ghost use Rattle.wg_lex.specs.Fronts.{stray_fault};
 
 use crate::fault::LexFault;
 use crate::front::{Front, scan};
@@ -16,7 +17,9 @@ use wg_tree::Token;
 pub const MOST_BYTES: usize = 1_048_576;
 
 /// Why no piece begins with this byte.
-fn stray(b: u8, position: Position) -> LexFault {
+fn stray(b: u8, position: Position) -> LexFault
+    ensures { result ≡ stray_fault b position }
+{
     let place = position.place;
     if b >= 128 {
         LexFault::NotAscii { place }

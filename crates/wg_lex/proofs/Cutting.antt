@@ -1,8 +1,7 @@
 -- A text is cut in one way, from its first piece on.
-use Rattle.std.proofs.Common.{◌≡◌, ◌≢◌, ℕ, zero, suc, ◌+◌, ◌-◌, ◌<◌, ◌≤◌, ◌==◌, Bool, true, false, ◌&&◌, ◌||◌, if◌then◌else◌, List, [], ◌∷◌, ◌++◌, length, take, drop, get_or, slice_get, Option, Some, None, refl, sym, ◌∙◌, ap, subst, arith, codes, append_assoc, ◌⊎◌, inl, inr}
+use Rattle.std.proofs.Common.{◌≡◌, ℕ, zero, suc, ◌+◌, ◌<◌, ◌≤◌, List, [], ◌∷◌, ◌++◌, length, take, drop, Some, refl, sym, ◌∙◌, ap, subst, arith, ◌⊎◌, inl, inr}
 use Rattle.std.proofs.lemmas.List.{append-nil, length-drop}
 use Rattle.wg_tree.specs.declared.token.Token.{Token}
-use Rattle.wg_tree.specs.declared.token.TokenKind.{TokenKind}
 use Rattle.wg_tree.specs.Spelling.{Matter, blank, comment, token, matter_of}
 use Rattle.wg_tree.specs.Cut.{Piece, IsLongest, BeginsWith, size_of, tokens_of, IsCutAt, Cuts, place_after}
 use Rattle.wg_tree.specs.LexicalRules.{LexicalRule, not_ascii, preprocessor, wide_literal, open_comment, stray_byte, IsBroken, Breaks, BreaksNone, BreaksFirst, rule_number}
@@ -35,7 +34,7 @@ begins_append text [] qs h k = k
 begins_append text (p ∷ ps) qs h k = (h.0, begins_append (drop p.size text) ps qs h.1 (subst (λ z. BeginsWith z qs) (sym (drop_add p.size (size_of ps) text)) k))
 
 cons_append : (text : List ℕ) (at : ℕ) (m : Matter) (n : ℕ) (ps qs : List Piece) (later : List Token) → tokens_of text (at + n) (ps ++ qs) ≡ tokens_of text (at + n) ps ++ later
-  → tokens_of text at (record { matter = m; size = n } ∷ (ps ++ qs)) ≡ tokens_of text at (record { matter = m; size = n } ∷ ps) ++ later
+    → tokens_of text at (record { matter = m; size = n } ∷ (ps ++ qs)) ≡ tokens_of text at (record { matter = m; size = n } ∷ ps) ++ later
 cons_append text at blank n ps qs later h = h
 cons_append text at comment n ps qs later h = h
 cons_append text at (token kind) n ps qs later h = ap (λ z. record { kind = kind; place = place_after (take at text); from = at; to = at + n } ∷ z) h

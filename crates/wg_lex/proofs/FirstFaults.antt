@@ -1,17 +1,13 @@
 -- Which broken rule is the first at its place.
-use Rattle.std.proofs.Common.{◌≡◌, ◌≢◌, ℕ, zero, suc, ◌+◌, ◌<◌, ◌≤◌, ◌==◌, Bool, true, false, ◌&&◌, ◌||◌, if◌then◌else◌, nat_lt, List, [], ◌∷◌, length, take, drop, get_or, slice_get, Option, Some, None, refl, sym, ◌∙◌, ap, subst, arith, codes, ◌⊎◌, inl, inr}
-use Rattle.std.specs.List.{list_all, list_any, after_last}
+use Rattle.std.proofs.Common.{◌≡◌, ℕ, zero, suc, ◌<◌, ◌≤◌, ◌==◌, Bool, true, false, ◌&&◌, if◌then◌else◌, nat_lt, List, [], ◌∷◌, take, get_or, slice_get, Some, None, refl, sym, ◌∙◌, ap, arith, codes}
+use Rattle.std.specs.List.{list_all}
 use Rattle.std.proofs.lemmas.Bool.Decides.{nat_tests}
-use Rattle.wg_tree.specs.declared.token.TokenKind.{TokenKind}
-use Rattle.wg_tree.specs.declared.token.TokenKind.TheVariants.{Plain, Number, Text, Mark, End}
-use Rattle.wg_tree.specs.Characters.{is_among, is_blank, is_letter, is_digit, is_line_feed}
-use Rattle.wg_tree.specs.Spelling.{Matter, blank, comment, token, matter_of, mark_of, is_punctuation, is_mark, is_double_mark, is_triple_mark}
+use Rattle.wg_tree.specs.declared.token.TokenKind.TheVariants.{Number}
+use Rattle.wg_tree.specs.Characters.{is_among, is_blank, is_letter, is_digit}
+use Rattle.wg_tree.specs.Spelling.{Matter, comment, token, matter_of, is_punctuation}
 use Rattle.wg_tree.specs.Cut.{Piece, IsLongest}
 use Rattle.wg_tree.specs.LexicalRules.{LexicalRule, not_ascii, preprocessor, wide_literal, open_comment, stray_byte, rule_number, IsBroken, IsNotAscii, IsPreprocessor, IsWideLiteral, IsOpenComment, IsStray}
-use Rattle.wg_lex.specs.declared.front.Front.{Front}
-use Rattle.wg_lex.specs.declared.front.Front.TheVariants.{Skipped, Token, WideLiteral, OpenComment, Stray}
-use Rattle.wg_lex.specs.Fronts.{IsFront}
-use Rattle.wg_lex.proofs.FrontRules.{one_longest, not_wide, not_open, first_open}
+use Rattle.wg_lex.proofs.FrontRules.{not_wide, first_open}
 use Rattle.wg_lex.proofs.Cutting.{size_positive}
 
 -- ---- a byte of 128 or more, and a `#`, begin no piece

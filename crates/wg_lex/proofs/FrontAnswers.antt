@@ -1,17 +1,14 @@
 -- What each step of the lexer finds at the front of a text.
-use Rattle.std.proofs.Common.{◌≡◌, ◌≢◌, ℕ, zero, suc, ◌+◌, ◌^◌, ◌<◌, ◌≤◌, ◌==◌, Bool, true, false, ◌&&◌, ◌||◌, List, [], ◌∷◌, length, take, drop, get_or, Option, Some, None, IfSome, IfNone, refl, sym, ◌∙◌, ap, subst, arith, rules, codes, ◌⊎◌, inl, inr, not}
+use Rattle.std.proofs.Common.{◌≡◌, ◌≢◌, ℕ, zero, suc, ◌+◌, ◌^◌, ◌<◌, ◌≤◌, ◌==◌, Bool, true, false, ◌&&◌, List, [], ◌∷◌, length, take, drop, get_or, Option, Some, None, refl, sym, ◌∙◌, ap, subst, arith, codes, inl, inr, not}
 use Rattle.std.specs.List.{prefix_len}
 use Rattle.std.proofs.lemmas.Bool.Decides.{nat_tests}
 use Rattle.wg_tree.specs.Characters.{is_among, is_blank, is_letter, is_digit, is_word, is_text_byte, is_line_feed}
-use Rattle.wg_tree.specs.declared.token.TokenKind.{TokenKind}
 use Rattle.wg_tree.specs.declared.token.TokenKind.TheVariants.{Plain, Number, Text, Mark}
-use Rattle.wg_tree.specs.Spelling.{Matter, blank, comment, token, matter_of}
-use Rattle.wg_tree.specs.Cut.{Piece, IsLongest}
-use Rattle.wg_tree.specs.LexicalRules.{IsWideLiteral, IsOpenComment, IsStray}
+use Rattle.wg_tree.specs.Spelling.{comment, token, matter_of}
+use Rattle.wg_tree.specs.Cut.{IsLongest}
 use Rattle.wg_lex.specs.declared.numbers.Numeral.{Numeral}
-use Rattle.wg_lex.specs.declared.front.Front.{Front}
 use Rattle.wg_lex.specs.declared.front.Front.TheVariants.{Skipped, Token, WideLiteral, OpenComment, Stray}
-use Rattle.wg_lex.specs.Numerals.{IsNumberOf, IsNumeral}
+use Rattle.wg_lex.specs.Numerals.{IsNumeral}
 use Rattle.wg_lex.specs.Scanning.{BeginsNoOther, IsLongestMark, IsNoMark, comment_end}
 use Rattle.wg_lex.specs.Fronts.{IsFront}
 use Rattle.wg_lex.proofs.FrontRules.{not_wide, not_wide_number, wide_by_letter, wide_by_value, not_open, opens_comment}

@@ -1,14 +1,11 @@
 -- Which rules the front of a text breaks.
-use Rattle.std.proofs.Common.{◌≡◌, ◌≢◌, ℕ, zero, suc, ◌+◌, ◌^◌, ◌<◌, ◌≤◌, ◌==◌, Bool, true, false, ◌&&◌, ◌||◌, List, [], ◌∷◌, length, take, drop, get_or, slice_get, Option, Some, None, IfSome, IfNone, IsTrue, refl, sym, ◌∙◌, ap, subst, arith, rules, codes, ◌⊎◌, inl, inr}
+use Rattle.std.proofs.Common.{◌≡◌, ◌≢◌, ℕ, zero, suc, ◌^◌, ◌<◌, ◌≤◌, ◌==◌, Bool, true, false, ◌&&◌, List, [], ◌∷◌, take, get_or, slice_get, Some, IsTrue, refl, sym, ◌∙◌, ap, arith, codes, ◌⊎◌, inl, inr}
 use Rattle.std.proofs.lemmas.Bool.Decides.{nat_tests}
-use Rattle.wg_tree.specs.Characters.{is_among, is_blank, is_letter, is_digit}
-use Rattle.wg_tree.specs.declared.token.TokenKind.{TokenKind}
-use Rattle.wg_tree.specs.declared.token.TokenKind.TheVariants.{Plain, Number, Text, Mark}
-use Rattle.wg_tree.specs.Spelling.{Matter, blank, comment, token, matter_of}
+use Rattle.wg_tree.specs.Characters.{is_among}
+use Rattle.wg_tree.specs.declared.token.TokenKind.TheVariants.{Number}
+use Rattle.wg_tree.specs.Spelling.{Matter, token, matter_of}
 use Rattle.wg_tree.specs.Cut.{Piece, IsLongest}
-use Rattle.wg_tree.specs.LexicalRules.{IsWideLiteral, IsOpenComment, IsStray}
-use Rattle.wg_lex.specs.declared.numbers.Numeral.{Numeral}
-use Rattle.wg_lex.specs.Numerals.{IsNumberOf, IsNumeral}
+use Rattle.wg_tree.specs.LexicalRules.{IsWideLiteral, IsOpenComment}
 
 order : (n m : ℕ) → (n < m) ⊎ ((m < n) ⊎ (n ≡ m))
 order n m = grind arith

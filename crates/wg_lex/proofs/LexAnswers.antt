@@ -1,25 +1,21 @@
 -- The steps of `lex`.
-use Rattle.std.proofs.Common.{◌≡◌, ◌≢◌, ℕ, zero, suc, ◌+◌, ◌^◌, ◌<◌, ◌≤◌, ◌==◌, Bool, true, false, ◌&&◌, if◌then◌else◌, nat_le, List, [], ◌∷◌, ◌++◌, length, take, drop, get_or, slice_get, Option, Some, None, IsTrue, fold, refl, sym, ◌∙◌, ap, subst, arith, ◌⊎◌, inl, inr}
-use Rattle.std.specs.List.{list_all, after_last}
+use Rattle.std.proofs.Common.{◌≡◌, ℕ, zero, suc, ◌+◌, ◌^◌, ◌<◌, ◌≤◌, ◌==◌, Bool, true, false, ◌&&◌, if◌then◌else◌, nat_le, List, [], ◌∷◌, ◌++◌, length, take, drop, get_or, slice_get, Some, fold, refl, sym, ◌∙◌, ap, subst, arith, inl, inr}
 use Rattle.std.proofs.lemmas.Bool.Decides.{nat_tests}
 use Rattle.std.proofs.lemmas.List.{append-nil, length-drop, length-take}
 use Rattle.wg_words.specs.declared.place.Place.{Place}
 use Rattle.wg_tree.specs.declared.token.Token.{Token}
 use Rattle.wg_tree.specs.declared.token.TokenKind.{TokenKind}
-use Rattle.wg_tree.specs.declared.token.TokenKind.TheVariants.{Number}
-use Rattle.wg_tree.specs.Characters.{is_blank, is_line_feed}
-use Rattle.wg_tree.specs.Spelling.{Matter, blank, comment, token}
-use Rattle.wg_tree.specs.Cut.{Piece, IsLongest, place_after}
-use Rattle.wg_tree.specs.LexicalRules.{LexicalRule, not_ascii, preprocessor, wide_literal, open_comment, stray_byte, BreaksFirst, IsNotAscii, IsPreprocessor, IsStray, most_bytes}
+use Rattle.wg_tree.specs.Spelling.{blank, comment, token}
+use Rattle.wg_tree.specs.Cut.{place_after}
+use Rattle.wg_tree.specs.LexicalRules.{not_ascii, preprocessor, wide_literal, open_comment, stray_byte, IsNotAscii, IsPreprocessor, IsStray, most_bytes}
 use Rattle.wg_lex.specs.declared.fault.LexFault.{LexFault}
 use Rattle.wg_lex.specs.declared.fault.LexFault.TheVariants as is
 use Rattle.wg_lex.specs.declared.position.Position.{Position}
-use Rattle.wg_lex.specs.declared.front.Front.{Front}
 use Rattle.wg_lex.specs.declared.front.Front.TheVariants as front
-use Rattle.wg_lex.specs.Faults.{IsFault, IsFirstAt}
+use Rattle.wg_lex.specs.Faults.{IsFault}
 use Rattle.wg_lex.specs.Fronts.{IsFront, stray_fault}
 use Rattle.wg_lex.specs.Positions.{position_after, next_position}
-use Rattle.wg_lex.proofs.Cutting.{SoFar, step, fault, drop_add}
+use Rattle.wg_lex.proofs.Cutting.{SoFar, step, fault}
 use Rattle.wg_lex.proofs.FirstFaults.{piece_breaks_none, skipped_breaks_none, wide_is_first, open_is_first, stray_is_first, not_ascii_is_first, preprocessor_is_first}
 use Rattle.wg_lex.proofs.Places.{after_is, line_within, column_within}
 
@@ -35,7 +31,7 @@ skipped text rest at size found after h so = elim f.0 [
     f = subst (λ z. IsFront z (front.Skipped size)) after h
 
 pub taken : (text rest : List ℕ) (at size : ℕ) (kind : TokenKind) (place : Place) (found : List Token) → rest ≡ drop at text → place ≡ place_after (take at text) → IsFront rest (front.Token kind size) → SoFar text at found
-  → SoFar text (at + size) (found ++ record { kind = kind; place = place; from = at; to = at + size } ∷ [])
+    → SoFar text (at + size) (found ++ record { kind = kind; place = place; from = at; to = at + size } ∷ [])
 taken text rest at size kind place found after same h so = subst (λ z. SoFar text (at + size) (found ++ record { kind = kind; place = z; from = at; to = at + size } ∷ [])) (sym same)
     (step text at (record { matter = token kind; size = size }) found f.0 (piece_breaks_none (take at text) (drop at text) (record { matter = token kind; size = size }) f.0 f.1 f.2) so)
   where
@@ -122,7 +118,7 @@ strayed text rest at b position result found short after first place h so e =
 
 -- lines and columns stay small
 pub fits : (text rest piece : List ℕ) (at size : ℕ) (position : Position) → length text ≤ most_bytes → rest ≡ drop at text → piece ≡ take size rest → position ≡ position_after (take at text)
-  → (position.place.line + length piece < 2 ^ 32) × (position.place.column + length piece < 2 ^ 32)
+    → (position.place.line + length piece < 2 ^ 32) × (position.place.column + length piece < 2 ^ 32)
 fits text rest piece at size position short after front place =
     let l : position.place.line ≤ length (take at text) + 1 = subst (λ z. z.place.line ≤ length (take at text) + 1) (sym place) (line_within (take at text)) in
     let k : position.place.column ≤ length (take at text) + 1 = subst (λ z. z.place.column ≤ length (take at text) + 1) (sym place) (column_within (take at text)) in

@@ -1,17 +1,16 @@
 -- The longest piece at the front of a text, by its first bytes.
-use Rattle.std.proofs.Common.{◌≡◌, ◌≢◌, ℕ, zero, suc, ◌+◌, ◌-◌, ◌<◌, ◌≤◌, ◌==◌, Bool, true, false, not, ◌&&◌, List, [], ◌∷◌, length, take, drop, get_or, Option, Some, None, if◌then◌else◌, refl, sym, ◌∙◌, ap, subst, arith, cond, codes, ◌⊎◌, inl, inr}
+use Rattle.std.proofs.Common.{◌≡◌, ℕ, zero, suc, ◌+◌, ◌-◌, ◌<◌, ◌≤◌, ◌==◌, Bool, true, false, not, ◌&&◌, List, [], ◌∷◌, length, take, drop, get_or, Some, None, if◌then◌else◌, refl, sym, ◌∙◌, ap, subst, arith, ◌⊎◌, inl, inr}
 use Rattle.std.specs.List.{list_all, prefix_len}
 use Rattle.std.proofs.lemmas.Bool.Decides.{nat_tests}
 use Rattle.std.proofs.lemmas.List.{length-drop}
 use Rattle.std.proofs.Math.Seq.{drop-cons}
-use Rattle.wg_tree.specs.Characters.{is_blank, is_letter, is_digit, is_word, is_line_feed, is_text_byte}
-use Rattle.wg_tree.specs.declared.token.TokenKind.{TokenKind}
-use Rattle.wg_tree.specs.declared.token.TokenKind.TheVariants.{Plain, Number, Text, Mark}
-use Rattle.wg_tree.specs.Spelling.{Matter, blank, comment, token, is_empty, is_quote, closes, matter_of, mark_of, text_of, slash_of}
+use Rattle.wg_tree.specs.Characters.{is_blank, is_letter, is_word, is_line_feed, is_text_byte}
+use Rattle.wg_tree.specs.declared.token.TokenKind.TheVariants.{Plain, Text, Mark}
+use Rattle.wg_tree.specs.Spelling.{blank, comment, token, is_quote, closes, matter_of, mark_of, text_of, slash_of}
 use Rattle.wg_tree.specs.Cut.{IsLongest}
 use Rattle.wg_lex.specs.Scanning.{IsLongestMark, IsNoMark, BeginsNoOther, comment_end}
 use Rattle.wg_lex.proofs.Runs.{run_within, all_run, all_past, run_of_front, run_of_run, take_of_take, drop_of_take}
-use Rattle.wg_lex.proofs.CommentEnds.{Ends, comment_ends, closes_after}
+use Rattle.wg_lex.proofs.CommentEnds.{Ends, comment_ends}
 
 -- ---- a blank
 

@@ -1,15 +1,15 @@
 -- The longest number at the front of a text.
-use Rattle.std.proofs.Common.{◌≡◌, ℕ, zero, suc, ◌+◌, ◌-◌, ◌*◌, ◌^◌, ◌<◌, ◌≤◌, ◌==◌, Bool, true, false, ◌&&◌, ◌||◌, if◌then◌else◌, List, [], ◌∷◌, length, take, drop, get_or, Option, Some, None, IfSome, IfNone, refl, sym, ◌∙◌, ap, subst, arith, codes, fold}
-use Rattle.std.specs.List.{prefix_len, take_while}
+use Rattle.std.proofs.Common.{◌≡◌, ℕ, zero, suc, ◌+◌, ◌-◌, ◌*◌, ◌^◌, ◌<◌, ◌≤◌, ◌==◌, Bool, true, false, ◌&&◌, if◌then◌else◌, List, [], ◌∷◌, length, take, drop, get_or, Option, Some, None, IfSome, IfNone, refl, sym, ◌∙◌, ap, subst, arith, codes, fold}
+use Rattle.std.specs.List.{prefix_len}
 use Rattle.std.proofs.lemmas.Bool.Decides.{nat_tests}
 use Rattle.std.proofs.lemmas.List.{length-drop}
 use Rattle.std.proofs.Math.Seq.{drop-cons}
 use Rattle.wg_tree.specs.Characters.{is_among, is_blank, is_letter, is_digit, is_hex_digit, digit_value}
 use Rattle.wg_tree.specs.declared.token.TokenKind.TheVariants.{Number}
-use Rattle.wg_tree.specs.Spelling.{Matter, token, is_empty, only_if, worth, with_suffix, number_in, number_of, goes_on_hexadecimal, matter_of}
+use Rattle.wg_tree.specs.Spelling.{Matter, token, worth, with_suffix, number_in, goes_on_hexadecimal, matter_of}
 use Rattle.wg_tree.specs.Cut.{IsLongest}
 use Rattle.wg_lex.specs.declared.numbers.Numeral.{Numeral}
-use Rattle.wg_lex.specs.Numerals.{IsSuffixed, IsNumberOf, IsNumeral, begins_hexadecimal}
+use Rattle.wg_lex.specs.Numerals.{IsSuffixed, IsNumeral, begins_hexadecimal}
 use Rattle.wg_lex.proofs.Runs.{run_within, run_of_front, take_of_take, drop_of_take}
 
 -- ---- the worth of digits

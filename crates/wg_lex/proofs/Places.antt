@@ -1,10 +1,9 @@
 -- Places, byte by byte.
-use Rattle.std.proofs.Common.{◌≡◌, ℕ, zero, suc, ◌+◌, ◌-◌, ◌<◌, ◌≤◌, Bool, true, false, not, ◌&&◌, cond, if◌then◌else◌, List, [], ◌∷◌, ◌++◌, length, take, drop, reverse, fold, count_by, refl, sym, ◌∙◌, ap, subst, arith, append_assoc, length-append}
-use Rattle.std.specs.List.{list_all, after_last, suffix_len, prefix_len, sum_by}
+use Rattle.std.proofs.Common.{◌≡◌, ℕ, zero, suc, ◌+◌, ◌-◌, ◌≤◌, Bool, true, false, not, ◌&&◌, cond, if◌then◌else◌, List, [], ◌∷◌, ◌++◌, length, drop, fold, count_by, refl, sym, ◌∙◌, ap, arith, append_assoc, length-append}
+use Rattle.std.specs.List.{list_all, after_last, suffix_len, prefix_len}
 use Rattle.std.proofs.lemmas.List.{append-nil, reverse-append, drop-append-le}
 use Rattle.std.proofs.lemmas.List.Sums.{suffix_len-le-length, count_by-le-length, sum_by-append}
 use Rattle.std.proofs.lemmas.List.Folds.{list_all-append}
-use Rattle.wg_words.specs.declared.place.Place.{Place}
 use Rattle.wg_tree.specs.Characters.{is_blank, is_line_feed}
 use Rattle.wg_tree.specs.Cut.{place_after}
 use Rattle.wg_lex.specs.declared.position.Position.{Position}

@@ -1,7 +1,6 @@
 -- What stands at the front of a text, as the steps of the lexer say it.
-use Rattle.std.specs.Prelude.{◌≡◌, ℕ, zero, suc, ◌+◌, ◌<◌, ◌≤◌, ◌⊎◌, Bool, true, false, ◌&&◌, ◌==◌, if◌then◌else◌, nat_le, List, [], ◌∷◌, length, take, Option, Some, None}
-use Rattle.std.specs.Option.{option_map}
-use Rattle.wg_tree.specs.Spelling.{blank, comment, token, is_punctuation}
+use Rattle.std.specs.Prelude.{ℕ, ◌⊎◌, ◌&&◌, ◌==◌, if◌then◌else◌, nat_le, List}
+use Rattle.wg_tree.specs.Spelling.{blank, comment, token}
 use Rattle.wg_tree.specs.Cut.{IsLongest}
 use Rattle.wg_tree.specs.LexicalRules.{IsWideLiteral, IsOpenComment, IsStray}
 use Rattle.wg_lex.specs.declared.fault.LexFault.{LexFault}

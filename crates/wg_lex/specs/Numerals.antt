@@ -1,5 +1,5 @@
 -- A number at the front of a text.
-use Rattle.std.specs.Prelude.{◌≡◌, ℕ, ◌+◌, ◌^◌, ◌<◌, ◌≤◌, Bool, ◌&&◌, ◌==◌, if◌then◌else◌, List, length, take, drop, slice_index, codes, IfSome, IfNone}
+use Rattle.std.specs.Prelude.{◌≡◌, ℕ, ◌+◌, ◌^◌, ◌≤◌, Bool, ◌&&◌, ◌==◌, if◌then◌else◌, List, take, drop, slice_index, codes, IfSome, IfNone}
 use Rattle.wg_tree.specs.Characters.{is_among}
 use Rattle.wg_tree.specs.Spelling.{worth, token, goes_on_hexadecimal}
 use Rattle.wg_tree.specs.Cut.{IsLongest}

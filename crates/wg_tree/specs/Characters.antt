@@ -1,5 +1,5 @@
 -- The bytes of a text by their use. Texts are of ASCII; only a comment holds other bytes. This project's profile of HLSL.
-use Rattle.std.specs.Prelude.{ℕ, ◌-◌, List, Bool, not, ◌&&◌, ◌||◌, ◌==◌, nat_lt, nat_le, if◌then◌else◌, codes}
+use Rattle.std.specs.Prelude.{ℕ, ◌-◌, List, Bool, not, ◌&&◌, ◌||◌, ◌==◌, nat_le, if◌then◌else◌}
 use Rattle.std.specs.List.{list_any}
 
 abbrev pub is_between : ℕ → ℕ → ℕ → Bool

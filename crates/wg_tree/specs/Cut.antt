@@ -1,5 +1,5 @@
 -- How a text is cut: it is a list of blanks, comments and tokens, each the longest at its place.
-use Rattle.std.specs.Prelude.{◌≡◌, ℕ, ◌+◌, ◌<◌, ◌≤◌, List, [], ◌∷◌, length, take, drop, count_by, sum_by, not, Option, Some, None}
+use Rattle.std.specs.Prelude.{◌≡◌, ℕ, ◌+◌, ◌<◌, ◌≤◌, List, [], ◌∷◌, length, take, drop, count_by, not, Some, None}
 use Rattle.std.specs.List.{suffix_len}
 use Rattle.wg_words.specs.declared.place.Place.{Place}
 use Rattle.wg_tree.specs.declared.token.Token.{Token}
@@ -9,8 +9,9 @@ use Rattle.wg_tree.specs.Spelling.{Matter, blank, comment, token, matter_of}
 -- the place of the byte that comes after these: its line and its column, from 1
 abbrev pub place_after : List ℕ → Place
 place_after before = record {
-    line = count_by is_line_feed before + 1;
-    column = suffix_len (λ b. not (is_line_feed b)) before + 1 }
+  line = count_by is_line_feed before + 1;
+  column = suffix_len (λ b. not (is_line_feed b)) before + 1;
+}
 
 -- a piece of a text and how many bytes it has
 pub record Piece : Type 0 where

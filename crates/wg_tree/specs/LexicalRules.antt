@@ -1,10 +1,10 @@
 -- The rules on a text's bytes and tokens, beside how it is cut, and which broken one is answered. This project's own.
-use Rattle.std.specs.Prelude.{◌≡◌, ℕ, ◌+◌, ◌^◌, ◌<◌, ◌≤◌, ◌⊎◌, Bool, false, IsTrue, List, [], ◌∷◌, length, take, drop, codes, Option, None, slice_get, Some}
+use Rattle.std.specs.Prelude.{◌≡◌, ℕ, ◌^◌, ◌<◌, ◌≤◌, ◌⊎◌, Bool, IsTrue, List, length, take, drop, codes, None, slice_get, Some}
 use Rattle.std.specs.List.{list_all, after_last}
 use Rattle.wg_tree.specs.declared.token.TokenKind.TheVariants.{Number}
 use Rattle.wg_tree.specs.Characters.{is_among, is_blank, is_line_feed}
-use Rattle.wg_tree.specs.Spelling.{Matter, comment, token, matter_of}
-use Rattle.wg_tree.specs.Cut.{Piece, IsLongest, IsCutAt}
+use Rattle.wg_tree.specs.Spelling.{comment, token, matter_of}
+use Rattle.wg_tree.specs.Cut.{IsLongest, IsCutAt}
 
 -- a text has at most this many bytes
 abbrev pub most_bytes : ℕ

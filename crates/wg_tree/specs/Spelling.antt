@@ -1,5 +1,5 @@
 -- What bytes spell, taken as a whole: a blank, a comment or a token.
-use Rattle.std.specs.Prelude.{ℕ, zero, suc, ◌+◌, ◌*◌, Bool, true, false, ◌&&◌, ◌||◌, ◌==◌, not, if◌then◌else◌, List, [], ◌∷◌, drop, take_while, length, fold, Option, Some, None, codes}
+use Rattle.std.specs.Prelude.{ℕ, ◌+◌, ◌*◌, Bool, true, false, ◌&&◌, ◌||◌, ◌==◌, not, if◌then◌else◌, List, [], ◌∷◌, drop, take_while, fold, Option, Some, None, codes}
 use Rattle.std.specs.List.{list_all, prefix_len}
 use Rattle.wg_tree.specs.declared.token.TokenKind.{TokenKind}
 use Rattle.wg_tree.specs.declared.token.TokenKind.TheVariants.{Plain, Number, Text, Mark}
@@ -80,6 +80,7 @@ is_punctuation (b ∷ bs) = from b bs
     after_two : ℕ → ℕ → List ℕ → Bool
     after_two b c [] = is_double_mark b c
     after_two b c (d ∷ ds) = is_triple_mark b c d && is_empty ds
+
     from : ℕ → List ℕ → Bool
     from b [] = is_mark b
     from b (c ∷ cs) = after_two b c cs

@@ -1,4 +1,4 @@
-use Rattle.wg_lex.proofs.CommentEnds.{end_begin, comment_ends}
+use Rattle.wg_lex.proofs.CommentEnds.{end_begin}
 use Rattle.wg_lex.proofs.comments.comment_len.Goals as goal
 
 pub loop-i-init : goal.loop-i-init

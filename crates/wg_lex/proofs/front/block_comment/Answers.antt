@@ -1,4 +1,4 @@
-use Rattle.std.proofs.Common.{sym, ◌∙◌, ap, subst, arith, rules}
+use Rattle.std.proofs.Common.{sym, ◌∙◌}
 use Rattle.wg_lex.proofs.FrontAnswers.{front_of_block_comment, front_of_open_comment}
 use Rattle.wg_lex.proofs.front.block_comment.Goals as goal
 

@@ -1,4 +1,3 @@
-use Rattle.std.proofs.Common.{sym, ◌∙◌, ap, subst, arith, rules}
 use Rattle.wg_lex.proofs.FrontAnswers.{front_of_line_comment}
 use Rattle.wg_lex.proofs.front.line_comment.Goals as goal
 

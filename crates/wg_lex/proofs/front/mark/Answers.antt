@@ -1,4 +1,3 @@
-use Rattle.std.proofs.Common.{sym, ◌∙◌, ap, subst, arith, rules}
 use Rattle.wg_lex.proofs.FrontAnswers.{front_of_mark, front_of_stray}
 use Rattle.wg_lex.proofs.front.mark.Goals as goal
 

@@ -1,4 +1,4 @@
-use Rattle.std.proofs.Common.{List, ℕ, ◌+◌, ◌≡◌, get_or, sym, ◌∙◌, subst, rules, arith}
+use Rattle.std.proofs.Common.{List, ℕ, ◌+◌, ◌≡◌, get_or, sym, ◌∙◌, subst, rules}
 use Rattle.wg_tree.specs.declared.token.TokenKind.TheVariants.{Text}
 use Rattle.wg_lex.specs.declared.front.Front.TheVariants.{Token}
 use Rattle.wg_lex.specs.Fronts.{IsFront}

@@ -1,5 +1,5 @@
 use Rattle.wg_lex.proofs.NumberSizes.{decimal_numeral, hexadecimal_numeral}
-use Rattle.std.proofs.Common.{sym, ◌∙◌}
+use Rattle.std.proofs.Common.{sym}
 use Rattle.wg_lex.proofs.numbers.scan_number.Goals as goal
 
 pub returns-then-is_hexadecimal : goal.returns-then-is_hexadecimal

@@ -1,7 +1,6 @@
-use Rattle.std.proofs.Common.{◌≡◌, ◌+◌, sym, ◌∙◌, ap, subst, arith, refl}
-use Rattle.wg_lex.specs.declared.front.Front.TheVariants as front
+use Rattle.std.proofs.Common.{◌+◌, sym, ◌∙◌, ap, subst, refl}
 use Rattle.wg_lex.specs.Fronts.{IsFront}
-use Rattle.wg_lex.proofs.Cutting.{SoFar, begin, end, only, unbroken}
+use Rattle.wg_lex.proofs.Cutting.{SoFar, begin, only}
 use Rattle.wg_lex.proofs.LexAnswers.{skipped, taken, moved, wide, opened, strayed, fits}
 use Rattle.wg_lex.proofs.text.lex.Goals as goal
 use Rattle.wg_lex.proofs.text.lex.Goals.{in-Skipped, in-Token+in_ok-push-in-Token}
@@ -25,15 +24,16 @@ pub loop-at-preserved : goal.loop-at-preserved
 loop-at-preserved c = (c.loop-at.invariant.0, so, moved c.args.text.now c.after-rest.result.now c.before-in-loop-at.result.now c.loop-at.at c.match-branch-2.size c.loop-at.position c.after-position.result c.after-rest.ensures c.before-in-loop-at.ensures c.loop-at.invariant.2 c.after-position.ensures)
   where
     so : SoFar c.args.text.now (c.loop-at.at + c.match-branch-2.size) c.match-branch-2.tokens.items
-    so = elim c.match-branch-2.branch
-        [ in-Skipped w ↦ subst (λ z. SoFar c.args.text.now (c.loop-at.at + z) c.match-branch-2.tokens.items) (sym w.size-is)
-            (subst (λ z. SoFar c.args.text.now (c.loop-at.at + w.in-Skipped.size) z.items) (sym w.tokens-is)
-            (skipped c.args.text.now c.after-rest.result.now c.loop-at.at w.in-Skipped.size c.loop-at.tokens.items c.after-rest.ensures
-                (subst (λ z. IsFront c.after-rest.result.now z) w.in-Skipped.is c.in_ok-size.ensures) c.loop-at.invariant.1))
-        | in-Token+in_ok-push-in-Token w ↦ subst (λ z. SoFar c.args.text.now (c.loop-at.at + z) c.match-branch-2.tokens.items) (sym w.size-is)
-            (subst (λ z. SoFar c.args.text.now (c.loop-at.at + w.in-Token.size) z) (sym (ap (λ z. z.items) w.tokens-is ∙ w.in_ok-push-in-Token.ensures.items))
-            (taken c.args.text.now c.after-rest.result.now c.loop-at.at w.in-Token.size w.in-Token.kind c.loop-at.position.place c.loop-at.tokens.items c.after-rest.ensures (ap (λ z. z.place) c.loop-at.invariant.2)
-                (subst (λ z. IsFront c.after-rest.result.now z) w.in-Token.is c.in_ok-size.ensures) c.loop-at.invariant.1)) ]
+    so = elim c.match-branch-2.branch [
+      | in-Skipped w ↦ subst (λ z. SoFar c.args.text.now (c.loop-at.at + z) c.match-branch-2.tokens.items) (sym w.size-is)
+          (subst (λ z. SoFar c.args.text.now (c.loop-at.at + w.in-Skipped.size) z.items) (sym w.tokens-is)
+          (skipped c.args.text.now c.after-rest.result.now c.loop-at.at w.in-Skipped.size c.loop-at.tokens.items c.after-rest.ensures
+          (subst (λ z. IsFront c.after-rest.result.now z) w.in-Skipped.is c.in_ok-size.ensures) c.loop-at.invariant.1))
+      | in-Token+in_ok-push-in-Token w ↦ subst (λ z. SoFar c.args.text.now (c.loop-at.at + z) c.match-branch-2.tokens.items) (sym w.size-is)
+          (subst (λ z. SoFar c.args.text.now (c.loop-at.at + w.in-Token.size) z) (sym (ap (λ z. z.items) w.tokens-is ∙ w.in_ok-push-in-Token.ensures.items))
+          (taken c.args.text.now c.after-rest.result.now c.loop-at.at w.in-Token.size w.in-Token.kind c.loop-at.position.place c.loop-at.tokens.items c.after-rest.ensures (ap (λ z. z.place) c.loop-at.invariant.2)
+          (subst (λ z. IsFront c.after-rest.result.now z) w.in-Token.is c.in_ok-size.ensures) c.loop-at.invariant.1))
+    ]
 
 pub returns-clause-only : goal.returns-clause-only
 returns-clause-only c = λ others k. only c.args.text.now c.loop-at.at c.loop-at.tokens.items others c.loop-at-test.false c.loop-at.invariant.1 k

@@ -1,0 +1,136 @@
+-- Which broken rule is the first at its place.
+use Rattle.std.proofs.Common.{◌≡◌, ℕ, zero, suc, ◌<◌, ◌≤◌, ◌==◌, Bool, true, false, ◌&&◌, if◌then◌else◌, nat_lt, List, [], ◌∷◌, take, get_or, slice_get, Some, None, refl, sym, ◌∙◌, ap, arith, codes}
+use Rattle.std.specs.List.{list_all}
+use Rattle.std.proofs.lemmas.Bool.Decides.{nat_tests}
+use Rattle.wg_tree.specs.declared.token.TokenKind.TheVariants.{Number}
+use Rattle.wg_tree.specs.Characters.{is_among, is_blank, is_letter, is_digit}
+use Rattle.wg_tree.specs.Spelling.{Matter, comment, token, matter_of, is_punctuation}
+use Rattle.wg_tree.specs.Cut.{Piece, IsLongest}
+use Rattle.wg_tree.specs.LexicalRules.{LexicalRule, not_ascii, preprocessor, wide_literal, open_comment, stray_byte, rule_number, IsBroken, IsNotAscii, IsPreprocessor, IsWideLiteral, IsOpenComment, IsStray}
+use Rattle.wg_lex.proofs.FrontRules.{not_wide, first_open}
+use Rattle.wg_lex.proofs.Cutting.{size_positive}
+
+-- ---- a byte of 128 or more, and a `#`, begin no piece
+
+among_step : (c b : ℕ) (cs : List ℕ) (v : Bool) → nat_lt c 128 ≡ v → (v && list_all (λ c. nat_lt c 128) cs) ≡ true → 128 ≤ b → (list_all (λ c. nat_lt c 128) cs ≡ true → is_among cs b ≡ false) → is_among (c ∷ cs) b ≡ false
+among_step c b cs false below e h ih = absurd (cc)
+among_step c b cs true below e h ih = let differs : (c == b) ≡ false = grind (arith, nat_tests) in rw differs (ih e)
+
+among_below : (these : List ℕ) (b : ℕ) → list_all (λ c. nat_lt c 128) these ≡ true → 128 ≤ b → is_among these b ≡ false
+among_below [] b e h = refl
+among_below (c ∷ cs) b e h = among_step c b cs (nat_lt c 128) refl e h (λ k. among_below cs b k h)
+
+mark_above : (b : ℕ) (bs : List ℕ) → 128 ≤ b → is_punctuation (b ∷ bs) ≡ false
+mark_above b [] h = among_below (codes "{}()[]<>;,.:?=+-*/%&|^!~") b refl h
+mark_above b (c ∷ []) h = let p = among_below (codes "<>=!+-*/%&|^") b refl h in let q = among_below (codes "<>&|+-") b refl h in rw (p, q) refl
+mark_above b (c ∷ d ∷ ds) h = let p = among_below (codes "<>") b refl h in rw p refl
+
+matter_above : (b : ℕ) (bs : List ℕ) → 128 ≤ b → matter_of (b ∷ bs) ≡ None
+matter_above b bs h =
+    let p : is_blank b ≡ false = grind (arith, nat_tests) in
+    let q : is_letter b ≡ false = grind (arith, nat_tests) in
+    let r : is_digit b ≡ false = grind (arith, nat_tests) in
+    let s : (b == 34) ≡ false = grind (arith, nat_tests) in
+    let t : (b == 47) ≡ false = grind (arith, nat_tests) in
+    let m = mark_above b bs h in
+    rw (p, q, r, s, t, m) refl
+
+matter_hash : (bs : List ℕ) → matter_of (35 ∷ bs) ≡ None
+matter_hash [] = refl
+matter_hash (c ∷ []) = refl
+matter_hash (c ∷ d ∷ ds) = refl
+
+front_none : (text : List ℕ) (b : ℕ) (p : Piece) → slice_get text 0 ≡ Some b → ((bs : List ℕ) → matter_of (b ∷ bs) ≡ None) → IsLongest text p → ⊥
+front_none [] b p e h l = cc
+front_none (c ∷ cs) b p e h l = taken p.size p.matter (size_positive (c ∷ cs) p l) l.is
+  where
+    taken : (n : ℕ) (m : Matter) → 0 < n → matter_of (take n (c ∷ cs)) ≡ Some m → ⊥
+    taken zero m some e = omega arith
+    taken (suc n) m some at = let same : c ≡ b = cc in let none : matter_of (c ∷ take n cs) ≡ None = ap (λ z. matter_of (z ∷ take n cs)) same ∙ h (take n cs) in cc
+
+pub piece_is_ascii : (text : List ℕ) (p : Piece) → IsLongest text p → IsNotAscii text → ⊥
+piece_is_ascii text p l (b, at, above) = front_none text b p at (λ bs. matter_above b bs above) l
+
+pub piece_is_no_hash : (before text : List ℕ) (p : Piece) → IsLongest text p → IsPreprocessor before text → ⊥
+piece_is_no_hash before text p l h = front_none text 35 p h.0 matter_hash l
+
+piece_is_no_stray : (text : List ℕ) (p : Piece) → IsLongest text p → IsStray text → ⊥
+piece_is_no_stray text p l h = let e = h.1 p.size l.inside in let f = l.is in cc
+
+-- ---- where a piece stands that breaks no rule
+
+pub piece_breaks_none : (before text : List ℕ) (p : Piece) → IsLongest text p → (IsWideLiteral text → ⊥) → (IsOpenComment text → ⊥) → (rule : LexicalRule) → IsBroken rule before text → ⊥
+piece_breaks_none before text p l wide opened not_ascii b = piece_is_ascii text p l b
+piece_breaks_none before text p l wide opened preprocessor b = piece_is_no_hash before text p l b
+piece_breaks_none before text p l wide opened wide_literal b = wide b
+piece_breaks_none before text p l wide opened open_comment b = opened b
+piece_breaks_none before text p l wide opened stray_byte b = piece_is_no_stray text p l b
+
+pub skipped_breaks_none : (before text : List ℕ) (p : Piece) → IsLongest text p → ((v : ℕ) (u : Bool) → p.matter ≡ token (Number v u) → ⊥) → (IsOpenComment text → ⊥) → (rule : LexicalRule) → IsBroken rule before text → ⊥
+skipped_breaks_none before text p l other opened = piece_breaks_none before text p l (not_wide text p l other) opened
+
+-- ---- the first broken rule at a place
+
+pub wide_is_first : (before text : List ℕ) → IsWideLiteral text → (other : LexicalRule) → IsBroken other before text → rule_number wide_literal ≤ rule_number other
+wide_is_first before text h not_ascii b = absurd (piece_is_ascii text _ h.3 b)
+wide_is_first before text h preprocessor b = absurd (piece_is_no_hash before text _ h.3 b)
+wide_is_first before text h wide_literal b = omega arith
+wide_is_first before text h open_comment b = omega arith
+wide_is_first before text h stray_byte b = omega arith
+
+open_is_no_number : (text : List ℕ) (n v : ℕ) (u : Bool) → take 2 text ≡ codes "/*" → matter_of (take n text) ≡ Some (token (Number v u)) → ⊥
+open_is_no_number text n v u h e = at text n (first_open text h).0 (first_open text h).1 e
+  where
+    commented : (w : Bool) → (if w then Some comment else None) ≡ Some (token (Number v u)) → ⊥
+    commented true e = cc
+    commented false e = cc
+
+    slashed : (bs : List ℕ) → get_or bs 0 0 ≡ 42 → (n : ℕ) → matter_of (take n (47 ∷ bs)) ≡ Some (token (Number v u)) → ⊥
+    slashed bs f zero e = cc
+    slashed bs f (suc zero) e = cc
+    slashed [] f (suc (suc n)) e = cc
+    slashed (c ∷ cs) f (suc (suc n)) e = commented _ (ap (λ z. matter_of (47 ∷ z ∷ take n cs)) (sym f) ∙ e)
+
+    at : (text : List ℕ) (n : ℕ) → get_or text 0 0 ≡ 47 → get_or text 1 0 ≡ 42 → matter_of (take n text) ≡ Some (token (Number v u)) → ⊥
+    at [] zero f g e = cc
+    at [] (suc n) f g e = cc
+    at (b ∷ bs) n f g e = slashed bs g n (ap (λ z. matter_of (take n (z ∷ bs))) (sym f) ∙ e)
+
+first_is : (text : List ℕ) (b : ℕ) → slice_get text 0 ≡ Some b → get_or text 0 0 ≡ b
+first_is [] b e = cc
+first_is (c ∷ cs) b e = cc
+
+pub open_is_first : (before text : List ℕ) → IsOpenComment text → (other : LexicalRule) → IsBroken other before text → rule_number open_comment ≤ rule_number other
+open_is_first before text h not_ascii b = let f = (first_open text h.0).0 in let g = first_is text b.0 b.1 in let a = b.2 in absurd (omega arith)
+open_is_first before text h preprocessor b = let f = (first_open text h.0).0 in let g = first_is text 35 b.0 in absurd (omega arith)
+open_is_first before text h wide_literal b = absurd (open_is_no_number text b.2 b.0 b.1 h.0 b.3.is)
+open_is_first before text h open_comment b = omega arith
+open_is_first before text h stray_byte b = omega arith
+
+slash_is_no_stray : (text : List ℕ) → take 2 text ≡ codes "/*" → IsStray text → ⊥
+slash_is_no_stray [] h s = let e = s.0 in omega arith
+slash_is_no_stray (b ∷ bs) h s = let f = (first_open (b ∷ bs) h).0 in marked (ap (λ z. matter_of (z ∷ [])) (sym f) ∙ s.1 1 (omega arith))
+  where
+    marked : matter_of (47 ∷ []) ≡ None → ⊥
+    marked e = cc
+
+pub stray_is_first : (before text : List ℕ) → IsStray text → (IsNotAscii text → ⊥) → (IsPreprocessor before text → ⊥) → (other : LexicalRule) → IsBroken other before text → rule_number stray_byte ≤ rule_number other
+stray_is_first before text h ascii plain not_ascii b = absurd (ascii b)
+stray_is_first before text h ascii plain preprocessor b = absurd (plain b)
+stray_is_first before text h ascii plain wide_literal b = absurd (piece_is_no_stray text _ b.3 h)
+stray_is_first before text h ascii plain open_comment b = absurd (slash_is_no_stray text b.0 h)
+stray_is_first before text h ascii plain stray_byte b = omega arith
+
+pub not_ascii_is_first : (before text : List ℕ) (other : LexicalRule) → IsBroken other before text → rule_number not_ascii ≤ rule_number other
+not_ascii_is_first before text not_ascii b = omega arith
+not_ascii_is_first before text preprocessor b = omega arith
+not_ascii_is_first before text wide_literal b = omega arith
+not_ascii_is_first before text open_comment b = omega arith
+not_ascii_is_first before text stray_byte b = omega arith
+
+pub preprocessor_is_first : (before text : List ℕ) → IsPreprocessor before text → (other : LexicalRule) → IsBroken other before text → rule_number preprocessor ≤ rule_number other
+preprocessor_is_first before text h not_ascii b = let f = first_is text 35 h.0 in let g = first_is text b.0 b.1 in let a = b.2 in absurd (omega arith)
+preprocessor_is_first before text h preprocessor b = omega arith
+preprocessor_is_first before text h wide_literal b = omega arith
+preprocessor_is_first before text h open_comment b = omega arith
+preprocessor_is_first before text h stray_byte b = omega arith

@@ -1,0 +1,11 @@
+pub mod CommentEnds
+pub mod Cutting
+pub mod FirstFaults
+pub mod FrontAnswers
+pub mod FrontRules
+pub mod LexAnswers
+pub mod Longest
+pub mod MarkSizes
+pub mod NumberSizes
+pub mod Places
+pub mod Runs

@@ -1,0 +1,5 @@
+pub mod Faults
+pub mod Fronts
+pub mod Numerals
+pub mod Positions
+pub mod Scanning

@@ -1,0 +1,29 @@
+-- Parts of a text, as the steps of the lexer say them.
+use Rattle.std.specs.Prelude.{◌≡◌, ℕ, ◌+◌, ◌<◌, ◌≤◌, Bool, true, false, ◌&&◌, ◌==◌, if◌then◌else◌, List, [], ◌∷◌, length, take, slice_index, Option, Some, None}
+use Rattle.std.specs.Option.{option_map}
+use Rattle.wg_tree.specs.Characters.{is_blank, is_letter, is_digit}
+use Rattle.wg_tree.specs.Spelling.{is_punctuation, code_of}
+
+-- the first n bytes are punctuation of this code, and no more of them are
+pub record IsLongestMark (text : List ℕ) (mark n : ℕ) : Type 0 where
+  pub inside : n ≤ length text
+  pub is : is_punctuation (take n text) ≡ true
+  pub code : mark ≡ code_of (take n text)
+  pub longest : (m : ℕ) → n < m → m ≤ length text → is_punctuation (take m text) ≡ false
+
+abbrev pub IsNoMark : List ℕ → Type 0
+IsNoMark text = (m : ℕ) → m ≤ length text → is_punctuation (take m text) ≡ false
+
+-- how many bytes there are to the end of the first `*/`, where a `*` may stand before them
+abbrev pub comment_end : Bool → List ℕ → Option ℕ
+comment_end after_star [] = None
+comment_end after_star (b ∷ bs) = if after_star && b == 47 then Some 1 else option_map (λ n. n + 1) (comment_end (b == 42) bs)
+
+-- no blank, name, number, string or comment begins with these bytes
+pub record BeginsNoOther (text : List ℕ) : Type 0 where
+  pub blank : is_blank (slice_index text 0) ≡ false
+  pub letter : is_letter (slice_index text 0) ≡ false
+  pub digit : is_digit (slice_index text 0) ≡ false
+  pub quote : (slice_index text 0 == 34) ≡ false
+  pub line : (slice_index text 0 == 47 && slice_index text 1 == 47) ≡ false
+  pub block : (slice_index text 0 == 47 && slice_index text 1 == 42) ≡ false

@@ -1,0 +1,4 @@
+pub mod Spans
+pub mod Reading
+pub mod Depths
+pub mod Parts

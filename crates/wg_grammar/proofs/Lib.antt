@@ -5,3 +5,6 @@ pub mod Full
 pub mod PartKept
 pub mod PartFull
 pub mod PartFine
+pub mod Look
+pub mod PartBites
+pub mod Exact

@@ -90,7 +90,7 @@ module _ {T N : Type 0} {Of : N → Type 0} (class : T → ℕ) (edges : Edges N
     none_read test item zero ts e = refl
     none_read test item (suc n) ts e = rw e refl
 
-    missed : {X : Type 0} (g : Part T N Of X) (ts : List T) → decides class edges example g ≡ true → sees (of class (first edges g)) ts ≡ false → Missed (nullable g) (reads class edges E g ts) ts
+    pub missed : {X : Type 0} (g : Part T N Of X) (ts : List T) → decides class edges example g ≡ true → sees (of class (first edges g)) ts ≡ false → Missed (nullable g) (reads class edges E g ts) ts
     missed (give x) ts d e = (x, refl)
     missed (token inner set value) ts d e = token_missed inner E.room (of class set) value ts e
     missed (apply p q) ts d e =

@@ -2,3 +2,4 @@ pub mod Spans
 pub mod Reading
 pub mod Depths
 pub mod Parts
+pub mod Takes

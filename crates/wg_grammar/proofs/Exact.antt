@@ -1,0 +1,36 @@
+-- A reader that reads exactly what is spelled.
+use Rattle.std.proofs.Common.{◌≡◌, ℕ, true, false, List}
+use Rattle.wg_grammar.specs.Spans.{Span}
+use Rattle.wg_grammar.specs.Reading.{Wrong, Reader, sees}
+use Rattle.wg_grammar.specs.Depths.{plain}
+use Rattle.wg_grammar.specs.Takes.{Takes}
+use Rattle.wg_grammar.specs.Parts.{Part, of, Edges, Readers, Rules, nullable, first, stops, reads, spells, decides}
+use Rattle.wg_grammar.proofs.Kept.{Persists, Eats}
+use Rattle.wg_grammar.proofs.Full.{Full}
+use Rattle.wg_grammar.proofs.PartKept.{Grows, part_persists, part_eats, part_refuses}
+use Rattle.wg_grammar.proofs.PartFull.{part_full, part_begins}
+use Rattle.wg_grammar.proofs.PartBites.{part_bites}
+
+-- starts: the classes with which it begins; ends: those that must not follow
+pub record Exact {T D X : Type 0} (class : T → ℕ) (starts ends : List ℕ) (p : Reader T X) (P : X → Span (T × D)) : Type 0 where
+  pub self : Persists p p
+  pub eats : Eats p
+  pub refuses : (ts : List T) → sees (of class starts) ts ≡ false → p ts ≡ Wrong ts
+  pub bites : (ts : List T) → sees (of class starts) ts ≡ true → Takes 1 ts (p ts)
+  pub begins : (x : X) (i r : List (T × D)) → P x i r → sees (of class starts) (plain i) ≡ true
+  pub full : Full p P (λ _ ts. sees (of class ends) ts ≡ false)
+
+module _ {T D N : Type 0} {Of : N → Type 0} (class : T → ℕ) (edges : Edges N) (example : ℕ → T) (E : Readers T N Of) (R : Rules T D N Of) (room : E.room ≡ R.room)
+    (parts : (n : N) → Exact class (edges.first n) (edges.stops n) (E.read n) (R.rule n)) where
+  pub grows_self : Grows E E
+  grows_self = record { room = λ e. e; kept = λ n. (parts n).self; eats = λ n. (parts n).eats }
+
+  pub exact_part : {X : Type 0} (g : Part T N Of X) → decides class edges example g ≡ true → nullable g ≡ false → Exact class (first edges g) (stops edges g) (reads class edges E g) (spells class R g)
+  exact_part g d n = record {
+    self = part_persists class edges example E E grows_self g d;
+    eats = part_eats class edges example E E grows_self g d n;
+    refuses = part_refuses class edges example E (λ n. (parts n).refuses) g d n;
+    bites = part_bites class edges example E E grows_self (λ n. (parts n).refuses) (λ n. (parts n).bites) g d;
+    begins = part_begins class edges example R (λ n. (parts n).begins) g d n;
+    full = part_full class edges example R (λ n. (parts n).begins) E room grows_self (λ n. (parts n).full) g d;
+  }

@@ -1,12 +1,13 @@
 -- A reader that reads exactly what is spelled.
-use Rattle.std.proofs.Common.{◌≡◌, ℕ, true, false, List}
-use Rattle.wg_grammar.specs.Spans.{Span}
-use Rattle.wg_grammar.specs.Reading.{Wrong, Reader, sees}
+use Rattle.std.proofs.Common.{subst, ap, sym, if◌then◌else◌, ◌≡◌, ℕ, true, false, List}
+use Rattle.wg_grammar.specs.Spans.{Span, Never}
+use Rattle.wg_grammar.specs.Reading.{Wrong, Deep, Reader, sees, too_deep}
 use Rattle.wg_grammar.specs.Depths.{plain}
 use Rattle.wg_grammar.specs.Takes.{Takes}
-use Rattle.wg_grammar.specs.Parts.{Part, of, Edges, Readers, Rules, nullable, first, stops, reads, spells, decides}
-use Rattle.wg_grammar.proofs.Kept.{Persists, Eats}
-use Rattle.wg_grammar.proofs.Full.{Full}
+use Rattle.wg_grammar.specs.Parts.{Part, of, covered, Edges, Readers, Rules, nullable, first, stops, reads, spells, decides}
+use Rattle.wg_grammar.proofs.Kept.{Persists, Eats, persists_deep, eats_deep}
+use Rattle.wg_grammar.proofs.Full.{Full, full_for}
+use Rattle.wg_grammar.proofs.Sets.{covered_sees}
 use Rattle.wg_grammar.proofs.PartKept.{Grows, part_persists, part_eats, part_refuses}
 use Rattle.wg_grammar.proofs.PartFull.{part_full, part_begins}
 use Rattle.wg_grammar.proofs.PartBites.{part_bites}
@@ -34,3 +35,18 @@ module _ {T D N : Type 0} {Of : N → Type 0} (class : T → ℕ) (edges : Edges
     begins = part_begins class edges example R (λ n. (parts n).begins) g d n;
     full = part_full class edges example R (λ n. (parts n).begins) E room grows_self (λ n. (parts n).full) g d;
   }
+
+pub exact_for : {T D X : Type 0} (class : T → ℕ) (starts ends more : List ℕ) {p : Reader T X} {P : X → Span (T × D)} → covered ends more ≡ true → Exact class starts ends p P → Exact class starts more p P
+exact_for class starts ends more c h = record {
+  self = h.self; eats = h.eats; refuses = h.refuses; bites = h.bites; begins = h.begins;
+  full = full_for (λ x ts k. covered_sees class ends more ts c k) h.full }
+
+-- where there is no room
+pub exact_never : {T D X : Type 0} (class : T → ℕ) (starts ends : List ℕ) → Exact {D = D} {X = X} class starts ends (too_deep (of class starts)) Never
+exact_never {T = T} {X = X} class starts ends = record {
+  self = persists_deep (of class starts) refuses; eats = eats_deep (of class starts); refuses = refuses;
+  bites = λ ts e. subst (λ z. Takes {X = X} 1 ts (if z then Deep ts else Wrong ts)) (sym e) tt;
+  begins = λ x i r h. absurd h; full = record { reads = λ x i r h k. absurd h } }
+  where
+    refuses : (ts : List T) → sees (of class starts) ts ≡ false → too_deep {X = X} (of class starts) ts ≡ Wrong ts
+    refuses ts e = ap (λ z. if z then Deep ts else Wrong ts) e

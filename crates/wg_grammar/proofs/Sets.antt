@@ -1,8 +1,8 @@
 -- Sets of classes.
-use Rattle.std.proofs.Common.{◌≡◌, ℕ, ◌==◌, ◌||◌, ◌&&◌, not, Bool, true, false, List, [], ◌∷◌, ◌++◌, refl, sym, ◌∙◌, ap}
+use Rattle.std.proofs.Common.{subst, ◌≡◌, ℕ, ◌==◌, ◌||◌, ◌&&◌, not, Bool, true, false, List, [], ◌∷◌, ◌++◌, refl, sym, ◌∙◌, ap}
 use Rattle.std.proofs.lemmas.Bool.{eqb-true}
 use Rattle.wg_grammar.specs.Reading.{sees}
-use Rattle.wg_grammar.specs.Parts.{member, apart, of}
+use Rattle.wg_grammar.specs.Parts.{member, apart, covered, of}
 
 pub both_true : (a b : Bool) → (a && b) ≡ true → (a ≡ true) × (b ≡ true)
 both_true true b h = (refl, h)
@@ -67,3 +67,32 @@ module _ {T : Type 0} (class : T → ℕ) where
       go : (v : Bool) → sees (of class cs) ts ≡ v → v ≡ false
       go true e = let n = apart_sees cs ds ts h e in absurd (cc)
       go false e = refl
+
+  covered_member : (c : ℕ) (cs ds : List ℕ) → covered cs ds ≡ true → member c cs ≡ true → member c ds ≡ true
+  covered_member c [] ds h m = absurd (cc)
+  covered_member c (x ∷ cs) ds h m = let q = both_true (member x ds) (covered cs ds) h in go (c == x) refl m q.0 (λ k. covered_member c cs ds q.1 k)
+    where
+      go : (v : Bool) → (c == x) ≡ v → (v || member c cs) ≡ true → member x ds ≡ true → (member c cs ≡ true → member c ds ≡ true) → member c ds ≡ true
+      go true e m a b = same_member c x ds e ∙ a
+      go false e m a b = b m
+
+  pub covered_sees : (cs ds : List ℕ) (ts : List T) → covered cs ds ≡ true → sees (of class ds) ts ≡ false → sees (of class cs) ts ≡ false
+  covered_sees cs ds [] h m = refl
+  covered_sees cs ds (t ∷ ts) h m = go (member (class t) cs) refl
+    where
+      go : (v : Bool) → member (class t) cs ≡ v → v ≡ false
+      go true e = let n = covered_member (class t) cs ds h e in absurd (cc)
+      go false e = refl
+
+-- what holds of each class holds of a member
+abbrev pub Each : List ℕ → (ℕ → Type 0) → Type 0
+Each [] P = Unit {0}
+Each (c ∷ cs) P = P c × Each cs P
+
+pub each : (P : ℕ → Type 0) (c : ℕ) (cs : List ℕ) → member c cs ≡ true → Each cs P → P c
+each P c [] m h = absurd (cc)
+each P c (x ∷ cs) m h = go (c == x) refl m h (λ k. each P c cs k h.1)
+  where
+    go : (v : Bool) → (c == x) ≡ v → (v || member c cs) ≡ true → Each (x ∷ cs) P → (member c cs ≡ true → P c) → P c
+    go true e m h k = subst P (sym (eqb-true c x e)) h.0
+    go false e m h k = k m

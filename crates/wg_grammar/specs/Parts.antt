@@ -139,3 +139,8 @@ p *> q = apply (apply (give (λ x y. y)) p) q
 infixr 8 ◌<|>◌
 abbrev pub ◌<|>◌ : {T N : Type 0} {Of : N → Type 0} {X : Type 0} → Part T N Of X → Part T N Of X → Part T N Of X
 p <|> q = either p q
+
+-- each class of the one is in the other
+abbrev pub covered : List ℕ → List ℕ → Bool
+covered [] ds = true
+covered (c ∷ cs) ds = member c ds && covered cs ds

@@ -251,14 +251,14 @@ chosen test (Some p) = e.Choice test p.0 p.1
 abbrev pub choice : Part Token Sides Side Expr
 choice = chosen <$> sub left <*> optional ((λ x y. (x, y)) <$> (mark "?" *> sub right) <* mark ":" <*> sub right)
 
-abbrev pub sides : {A : Type 1} → A → A → Sides → A
+abbrev pub sides {ℓ} : {A : Type ℓ} → A → A → Sides → A
 sides l r left = l
 sides l r right = r
 
 abbrev pub expr : Kind → Inner → Rule Expr
 expr kind inner = spells class (record { room = inner.room; here = inner.here; below = inner.below; rule = sides (level kind inner 10) (inner.rule whole) }) choice
 
-abbrev pub nested : {A : Type 1} → A → A → Nested → A
+abbrev pub nested {ℓ} : {A : Type ℓ} → A → A → Nested → A
 nested w o whole = w
 nested w o operand = o
 

@@ -1,3 +1,4 @@
 pub mod Symbols
 pub mod Depths
 pub mod GrammarExpr
+pub mod ReadsExpr

@@ -1,13 +1,15 @@
 -- A reader that reads exactly what is spelled.
-use Rattle.std.proofs.Common.{subst, ap, sym, if◌then◌else◌, ◌≡◌, ℕ, true, false, List}
-use Rattle.wg_grammar.specs.Spans.{Span, Never}
-use Rattle.wg_grammar.specs.Reading.{Wrong, Deep, Reader, sees, too_deep}
+use Rattle.std.proofs.Common.{Bool, suc, [], ◌∷◌, length, refl, ◌∙◌, inl, inr, subst, ap, sym, if◌then◌else◌, ◌≡◌, ℕ, true, false, List}
+use Rattle.wg_grammar.specs.Spans.{Span, Never, ◌or◌}
+use Rattle.wg_grammar.specs.Reading.{Wrong, Deep, Reader, sees, begins, look, too_deep}
 use Rattle.wg_grammar.specs.Depths.{plain}
-use Rattle.wg_grammar.specs.Takes.{Takes}
+use Rattle.wg_grammar.specs.Takes.{Takes, matched}
 use Rattle.wg_grammar.specs.Parts.{Part, of, covered, Edges, Readers, Rules, nullable, first, stops, reads, spells, decides}
 use Rattle.wg_grammar.proofs.Kept.{Persists, Eats, persists_deep, eats_deep}
 use Rattle.wg_grammar.proofs.Full.{Full, full_for}
-use Rattle.wg_grammar.proofs.Sets.{covered_sees}
+use Rattle.wg_grammar.proofs.Sets.{covered_sees, covered_true, both_true}
+use Rattle.wg_grammar.proofs.Look.{persists_look, eats_look, full_look}
+use Rattle.wg_grammar.proofs.Inverse.{begins_not}
 use Rattle.wg_grammar.proofs.PartKept.{Grows, part_persists, part_eats, part_refuses}
 use Rattle.wg_grammar.proofs.PartFull.{part_full, part_begins}
 use Rattle.wg_grammar.proofs.PartBites.{part_bites}
@@ -50,3 +52,26 @@ exact_never {T = T} {X = X} class starts ends = record {
   where
     refuses : (ts : List T) → sees (of class starts) ts ≡ false → too_deep {X = X} (of class starts) ts ≡ Wrong ts
     refuses ts e = ap (λ z. if z then Deep ts else Wrong ts) e
+
+-- the one or the other, told apart by several tokens
+module _ {T D X : Type 0} (class : T → ℕ) (set s1 s2 ends : List ℕ) (tests : List (T → Bool)) {p q : Reader T X} {P Q : X → Span (T × D)} where
+  pub exact_look : covered s1 s2 ≡ true → covered set s1 ≡ true → Exact class s1 ends p P → Exact class s2 ends q Q
+    → ((ts : List T) → begins (of class set ∷ tests) ts ≡ true → (n : ℕ) → suc (length tests) ≡ suc n → Takes n ts (p ts))
+    → ((ts : List T) → begins (of class set ∷ tests) ts ≡ false → Takes (matched (of class set ∷ tests) ts) ts (q ts))
+    → ((x : X) (i r : List (T × D)) → P x i r → begins (of class set ∷ tests) (plain i) ≡ true)
+    → ((x : X) (i r : List (T × D)) → Q x i r → sees (of class ends) (plain r) ≡ false → begins (of class set ∷ tests) (plain i) ≡ false)
+    → Exact class s2 ends (look (of class set ∷ tests) p q) (P or Q)
+  exact_look c d a b taken other first second = record {
+      self = persists_look (of class set ∷ tests) a.self b.self taken other;
+      eats = eats_look (of class set ∷ tests) a.eats b.eats;
+      refuses = λ ts e. ap (λ z. if z then p ts else q ts) (begins_not (of class set) tests ts (covered_sees class set s1 ts d (covered_sees class s1 s2 ts c e))) ∙ b.refuses ts e;
+      bites = λ ts e. biting ts e (begins (of class set ∷ tests) ts) refl;
+      begins = λ x i r h. elim h [ inl u ↦ covered_true class s1 s2 (plain i) c (a.begins x i r u) | inr u ↦ b.begins x i r u ];
+      full = full_look (of class set ∷ tests) a.full b.full first second }
+    where
+      seen : (ts : List T) → begins (of class set ∷ tests) ts ≡ true → sees (of class set) ts ≡ true
+      seen [] e = absurd (cc)
+      seen (t ∷ ts) e = (both_true (of class set t) (begins tests ts) e).0
+      biting : (ts : List T) → sees (of class s2) ts ≡ true → (v : Bool) → begins (of class set ∷ tests) ts ≡ v → Takes 1 ts (if v then p ts else q ts)
+      biting ts e true g = a.bites ts (covered_true class set s1 ts d (seen ts g))
+      biting ts e false g = b.bites ts e

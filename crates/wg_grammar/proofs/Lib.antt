@@ -7,4 +7,5 @@ pub mod PartFull
 pub mod PartFine
 pub mod Look
 pub mod PartBites
+pub mod Inverse
 pub mod Exact

@@ -84,6 +84,10 @@ module _ {T : Type 0} (class : T → ℕ) where
       go true e = let n = covered_member (class t) cs ds h e in absurd (cc)
       go false e = refl
 
+  pub covered_true : (cs ds : List ℕ) (ts : List T) → covered cs ds ≡ true → sees (of class cs) ts ≡ true → sees (of class ds) ts ≡ true
+  covered_true cs ds [] h m = absurd (cc)
+  covered_true cs ds (t ∷ ts) h m = covered_member (class t) cs ds h m
+
 -- what holds of each class holds of a member
 abbrev pub Each : List ℕ → (ℕ → Type 0) → Type 0
 Each [] P = Unit {0}

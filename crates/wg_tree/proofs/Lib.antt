@@ -1,2 +1,4 @@
 pub mod Examples
 pub mod ExprDecides
+pub mod ExprPaths
+pub mod ExprUnary

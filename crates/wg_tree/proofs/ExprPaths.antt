@@ -96,3 +96,11 @@ module _ (class : Token → ℕ) (edges : Edges Nested) (I : Readers Token Neste
       go : (r : Bool) → I.room ≡ r → Takes 3 (t ∷ n ∷ u ∷ z ∷ ts) (Read zeros (t ∷ n ∷ u ∷ z ∷ ts))
       go true r = rw (r, c, d, f, g) (omega arith)
       go false r = rw (r, c) tt
+
+  -- a type and then no opening bracket
+  pub type_wrong : (v u : Token) (ts : List Token) → of class (classes (by_code value_types)) v ≡ true → of class (mark_code "(" ∷ []) u ≡ false → Read (plain_operand full) (v ∷ u ∷ ts) ≡ Wrong (u ∷ ts)
+  type_wrong v u ts w z = each (λ c. class v ≡ c → Read (plain_operand full) (v ∷ u ∷ ts) ≡ Wrong (u ∷ ts)) (class v) (classes (by_code value_types)) w (all I.room refl) refl
+    where
+      all : (b : Bool) → I.room ≡ b → Each (classes (by_code value_types)) (λ c. class v ≡ c → Read (plain_operand full) (v ∷ u ∷ ts) ≡ Wrong (u ∷ ts))
+      all true r = (λ q. rw (r, q, z) refl, (λ q. rw (r, q, z) refl, (λ q. rw (r, q, z) refl, (λ q. rw (r, q, z) refl, (λ q. rw (r, q, z) refl, (λ q. rw (r, q, z) refl, (λ q. rw (r, q, z) refl, (λ q. rw (r, q, z) refl, (λ q. rw (r, q, z) refl, (λ q. rw (r, q, z) refl, (λ q. rw (r, q, z) refl, (λ q. rw (r, q, z) refl, tt))))))))))))
+      all false r = (λ q. rw (r, q, z) refl, (λ q. rw (r, q, z) refl, (λ q. rw (r, q, z) refl, (λ q. rw (r, q, z) refl, (λ q. rw (r, q, z) refl, (λ q. rw (r, q, z) refl, (λ q. rw (r, q, z) refl, (λ q. rw (r, q, z) refl, (λ q. rw (r, q, z) refl, (λ q. rw (r, q, z) refl, (λ q. rw (r, q, z) refl, (λ q. rw (r, q, z) refl, tt))))))))))))

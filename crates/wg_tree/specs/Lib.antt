@@ -2,3 +2,5 @@ pub mod Symbols
 pub mod Depths
 pub mod GrammarExpr
 pub mod ReadsExpr
+pub mod GrammarStmt
+pub mod ReadsStmt

@@ -33,7 +33,7 @@ pub enum ObjectWord {
 pub struct ObjectType {
     pub place: Place,
     pub word: ObjectWord,
-    pub record: Option<TypeName>,
+    pub record_type: Option<TypeName>,
 }
 
 /// One name of a declaration: its array size and its start value, if any.

@@ -1,14 +1,14 @@
 -- A reader that reads exactly what is spelled.
-use Rattle.std.proofs.Common.{Bool, suc, [], ◌∷◌, length, refl, ◌∙◌, inl, inr, subst, ap, sym, if◌then◌else◌, ◌≡◌, ℕ, true, false, List}
-use Rattle.wg_grammar.specs.Spans.{Span, Never, ◌or◌}
-use Rattle.wg_grammar.specs.Reading.{Wrong, Deep, Reader, sees, begins, look, too_deep}
+use Rattle.std.proofs.Common.{◌++◌, ◌||◌, arith, Bool, suc, [], ◌∷◌, length, refl, ◌∙◌, inl, inr, subst, ap, sym, if◌then◌else◌, ◌≡◌, ℕ, true, false, List}
+use Rattle.wg_grammar.specs.Spans.{Span, Seq, None_of, Never, ◌or◌}
+use Rattle.wg_grammar.specs.Reading.{Wrong, Deep, Reader, and_then, ◌>>=◌, pure, sees, begins, look, by_next, too_deep}
 use Rattle.wg_grammar.specs.Depths.{plain}
 use Rattle.wg_grammar.specs.Takes.{Takes, matched}
-use Rattle.wg_grammar.specs.Parts.{Part, of, covered, Edges, Readers, Rules, nullable, first, stops, reads, spells, decides}
-use Rattle.wg_grammar.proofs.Kept.{Persists, Eats, persists_deep, eats_deep}
-use Rattle.wg_grammar.proofs.Full.{Full, full_for}
-use Rattle.wg_grammar.proofs.Sets.{covered_sees, covered_true, both_true}
-use Rattle.wg_grammar.proofs.Look.{persists_look, eats_look, full_look}
+use Rattle.wg_grammar.specs.Parts.{Part, of, apart, covered, Edges, Readers, Rules, nullable, first, stops, reads, spells, decides}
+use Rattle.wg_grammar.proofs.Kept.{Persists, Eats, persists_deep, eats_deep, persists_next, persists_bind, persists_pure, eats_next, eats_first, falls_pure}
+use Rattle.wg_grammar.proofs.Full.{Full, full_for, full_next, full_bind, full_pure}
+use Rattle.wg_grammar.proofs.Sets.{covered_sees, covered_true, both_true, apart_other, sees_left, sees_right, sees_none, sees-append}
+use Rattle.wg_grammar.proofs.Look.{persists_look, eats_look, full_look, takes_then}
 use Rattle.wg_grammar.proofs.Inverse.{begins_not}
 use Rattle.wg_grammar.proofs.PartKept.{Grows, part_persists, part_eats, part_refuses}
 use Rattle.wg_grammar.proofs.PartFull.{part_full, part_begins}
@@ -75,3 +75,33 @@ module _ {T D X : Type 0} (class : T → ℕ) (set s1 s2 ends : List ℕ) (tests
       biting : (ts : List T) → sees (of class s2) ts ≡ true → (v : Bool) → begins (of class set ∷ tests) ts ≡ v → Takes 1 ts (if v then p ts else q ts)
       biting ts e true g = a.bites ts (covered_true class set s1 ts d (seen ts g))
       biting ts e false g = b.bites ts e
+
+-- the one or the other, by the next token
+pub exact_next : {T D X : Type 0} (class : T → ℕ) (s1 s2 ends : List ℕ) {p q : Reader T X} {P Q : X → Span (T × D)} → apart s1 s2 ≡ true → Exact class s1 ends p P → Exact class s2 ends q Q
+  → Exact class (s1 ++ s2) ends (by_next (of class s1) p q) (P or Q)
+exact_next {T = T} class s1 s2 ends {p = p} {q = q} {P = P} {Q = Q} c a b = record {
+    self = persists_next (of class s1) a.self b.self;
+    eats = eats_next (of class s1) a.eats b.eats;
+    refuses = λ ts e. let n = sees_none class s1 s2 ts e in ap (λ z. if z then p ts else q ts) n.0 ∙ b.refuses ts n.1;
+    bites = λ ts e. biting ts (sees (of class s1) ts) refl (sym (sees-append class s1 s2 ts) ∙ e);
+    begins = λ x i r h. elim h [ inl u ↦ sees_left class s1 s2 (plain i) (a.begins x i r u) | inr u ↦ sees_right class s1 s2 (plain i) (b.begins x i r u) ];
+    full = full_next (of class s1) a.full b.full a.begins (λ x i r h. apart_other class s1 s2 (plain i) c (b.begins x i r h)) }
+  where
+    biting : (ts : List T) (v : Bool) → sees (of class s1) ts ≡ v → (v || sees (of class s2) ts) ≡ true → Takes 1 ts (if v then p ts else q ts)
+    biting ts true g e = a.bites ts g
+    biting ts false g e = b.bites ts e
+
+-- the same with another value
+pub exact_map : {T D X Y : Type 0} (class : T → ℕ) (starts ends : List ℕ) {p : Reader T X} {P : X → Span (T × D)} (f : X → Y) → Exact class starts ends p P → Exact class starts ends (p >>= λ x. pure (f x)) (Seq P (λ x. None_of (f x)))
+exact_map class starts ends {p = p} f h = record {
+  self = persists_bind h.self (λ x. persists_pure (f x));
+  eats = eats_first h.eats (λ x. falls_pure (f x));
+  refuses = λ ts e. ap (λ z. and_then z (λ x. pure (f x))) (h.refuses ts e);
+  bites = λ ts e. takes_then 1 ts (p ts) (λ x. pure (f x)) (h.bites ts e) (λ x m. omega arith);
+  begins = λ y i r k. h.begins k.0 i k.1 k.2;
+  full = full_bind h.full (λ x. full_pure (f x)) (λ x y m r q k. subst (λ z. sees (of class ends) (plain z) ≡ false) (sym q.1) k) }
+
+-- nothing is in the empty set
+pub none_seen : {T : Type 0} (class : T → ℕ) (ts : List T) → sees (of class []) ts ≡ false
+none_seen class [] = refl
+none_seen class (t ∷ ts) = refl

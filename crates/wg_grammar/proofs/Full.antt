@@ -1,7 +1,7 @@
 -- What is spelled is read, whatever follows that the reader would not take too.
-use Rattle.std.proofs.Common.{◌≡◌, ℕ, zero, suc, ◌≤◌, Bool, true, false, List, [], ◌∷◌, length, refl, sym, ◌∙◌, ap, subst, arith, if◌then◌else◌}
-use Rattle.wg_grammar.specs.Reading.{Got, Wrong, Reader, and_then, ◌>>=◌, pure, sees, take_if, many_from, many}
-use Rattle.wg_grammar.specs.Spans.{Span, Seq, None_of, Leaf, Many}
+use Rattle.std.proofs.Common.{inl, inr, ◌≡◌, ℕ, zero, suc, ◌≤◌, Bool, true, false, List, [], ◌∷◌, length, refl, sym, ◌∙◌, ap, subst, arith, if◌then◌else◌}
+use Rattle.wg_grammar.specs.Reading.{by_next, Got, Wrong, Reader, and_then, ◌>>=◌, pure, sees, take_if, many_from, many}
+use Rattle.wg_grammar.specs.Spans.{Span, Seq, None_of, Leaf, Many, ◌or◌}
 use Rattle.wg_grammar.specs.Depths.{plain}
 use Rattle.wg_grammar.proofs.Kept.{Eats}
 
@@ -49,3 +49,10 @@ module _ {T D X : Type 0} (starts : T → Bool) {item : Reader T X} {R : X → S
 
   pub full_many : Full (many starts item) (Many R) (λ _ ts. Ends starts ts × FI ts)
   full_many = record { reads = λ xs i r k f. all_read xs i r k f.0 f.1 _ (omega arith) }
+
+-- the one or the other, by the next token
+pub full_next : {T D X : Type 0} (test : T → Bool) {p q : Reader T X} {P Q : X → Span (T × D)} {F : X → List T → Type 0} → Full p P F → Full q Q F
+  → ((x : X) (i r : List (T × D)) → P x i r → sees test (plain i) ≡ true) → ((x : X) (i r : List (T × D)) → Q x i r → sees test (plain i) ≡ false) → Full (by_next test p q) (P or Q) F
+full_next test {p = p} {q = q} a b first second = record { reads = λ x i r h f. elim h [
+      inl u ↦ ap (λ z. if z then p (plain i) else q (plain i)) (first x i r u) ∙ a.reads x i r u f
+    | inr u ↦ ap (λ z. if z then p (plain i) else q (plain i)) (second x i r u) ∙ b.reads x i r u f ] }

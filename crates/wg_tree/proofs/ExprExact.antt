@@ -132,21 +132,21 @@ no_room_tells = record {
   name = λ n u ts c d. inr (n ∷ u ∷ ts, ap (λ z. if member z (starts full) then Deep (n ∷ u ∷ ts) else Wrong (n ∷ u ∷ ts)) c);
   type = λ v u ts w d. inr (v ∷ u ∷ ts, ap (λ z. if z then Deep (v ∷ u ∷ ts) else Wrong (v ∷ u ∷ ts)) (covered_true class (classes (by_code value_types)) (starts full) (v ∷ u ∷ ts) refl w)) }
 
-nowhere : Depth
+pub nowhere : Depth
 nowhere = record { statement = 0; expression = 0 }
+
+-- a name alone, whatever follows that an expression would not take
+pub named_read : (room : ℕ) → Known full room → (n u : Token) (ts : List Token) → class n ≡ NAME → sees (of class (expr_stops full)) (u ∷ ts) ≡ false → expr_read_at full room (n ∷ u ∷ ts) ≡ Got (e.Name (named n)) (u ∷ ts)
+named_read room k n u ts c d =
+    let r = annotated nowhere ts in
+    let R = inner_at full room nowhere in
+    subst (λ z. expr_read_at full room (n ∷ u ∷ z) ≡ Got (e.Name (named n)) (u ∷ z)) (plain_annotated nowhere ts)
+      ((exact_expr_at full room k nowhere).full.reads (e.Name (named n)) ((n, R.here) ∷ (u, nowhere) ∷ r) ((u, nowhere) ∷ r) (expr_alone full R (e.Name (named n)) ((n, R.here) ∷ (u, nowhere) ∷ r) ((u, nowhere) ∷ r) (name_alone R n ((u, nowhere) ∷ r) c)) d)
 
 room_tells : (room : ℕ) → Known full room → Tells (inside_at full (suc room))
 room_tells room k = record {
-  name = λ n u ts c d. inl (named_read n u ts c d);
+  name = λ n u ts c d. inl (named_read room k n u ts c (ap (λ z. member z (expr_stops full)) d));
   type = λ v u ts w d. inl (expr_wrong full (inside_at full room) (v ∷ u ∷ ts) (u ∷ ts) (unary_type_wrong (inside_at full room) v u ts w (ap (λ z. member z (mark_code "(" ∷ [])) d))) }
-  where
-    named_read : (n u : Token) (ts : List Token) → class n ≡ NAME → class u ≡ mark_code ")" → expr_read_at full room (n ∷ u ∷ ts) ≡ Got (e.Name (named n)) (u ∷ ts)
-    named_read n u ts c d =
-        let r = annotated nowhere ts in
-        let R = inner_at full room nowhere in
-        subst (λ z. expr_read_at full room (n ∷ u ∷ z) ≡ Got (e.Name (named n)) (u ∷ z)) (plain_annotated nowhere ts)
-          ((exact_expr_at full room k nowhere).full.reads (e.Name (named n)) ((n, R.here) ∷ (u, nowhere) ∷ r) ((u, nowhere) ∷ r) (expr_alone full R (e.Name (named n)) ((n, R.here) ∷ (u, nowhere) ∷ r) ((u, nowhere) ∷ r) (name_alone R n ((u, nowhere) ∷ r) c))
-            (ap (λ z. member z (expr_stops full)) d))
 
 pub known : (kind : Kind) (room : ℕ) → Known kind room
 known kind zero = record { parts = λ d n. exact_never class (starts kind) ((nested_edges kind).stops n); tells = λ q. subst (λ z. Tells (inside_at z 0)) (sym q) no_room_tells }

@@ -4,3 +4,7 @@ pub mod ExprPaths
 pub mod ExprUnary
 pub mod ExprExact
 pub mod StmtDecides
+pub mod StmtOpening
+pub mod StmtExact
+pub mod ItemDecides
+pub mod TextExact

@@ -219,7 +219,7 @@ module _ (room : ℕ) (d : Depth) where
   pieces_rules = record { room = true; here = d; below = d; rule = pieces_rule }
 
   abbrev pub unbraced : Rule Stmt → Rule Stmt
-  unbraced body = spells class pieces_rules basic or Seq (spells class pieces_rules head) (finish body d)
+  unbraced body = Seq (spells class pieces_rules head) (finish body d) or spells class pieces_rules basic
 
 pub data Inside : Type 0 where
   statement : Inside

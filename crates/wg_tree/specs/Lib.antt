@@ -4,3 +4,5 @@ pub mod GrammarExpr
 pub mod ReadsExpr
 pub mod GrammarStmt
 pub mod ReadsStmt
+pub mod GrammarItem
+pub mod ReadsItem

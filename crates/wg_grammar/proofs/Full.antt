@@ -52,7 +52,10 @@ module _ {T D X : Type 0} (starts : T → Bool) {item : Reader T X} {R : X → S
 
 -- the one or the other, by the next token
 pub full_next : {T D X : Type 0} (test : T → Bool) {p q : Reader T X} {P Q : X → Span (T × D)} {F : X → List T → Type 0} → Full p P F → Full q Q F
-  → ((x : X) (i r : List (T × D)) → P x i r → sees test (plain i) ≡ true) → ((x : X) (i r : List (T × D)) → Q x i r → sees test (plain i) ≡ false) → Full (by_next test p q) (P or Q) F
-full_next test {p = p} {q = q} a b first second = record { reads = λ x i r h f. elim h [
-      inl u ↦ ap (λ z. if z then p (plain i) else q (plain i)) (first x i r u) ∙ a.reads x i r u f
-    | inr u ↦ ap (λ z. if z then p (plain i) else q (plain i)) (second x i r u) ∙ b.reads x i r u f ] }
+    → ((x : X) (i r : List (T × D)) → P x i r → sees test (plain i) ≡ true) → ((x : X) (i r : List (T × D)) → Q x i r → sees test (plain i) ≡ false) → Full (by_next test p q) (P or Q) F
+full_next test {p = p} {q = q} a b first second = record {
+  reads = λ x i r h f. elim h [
+    | inl u ↦ ap (λ z. if z then p (plain i) else q (plain i)) (first x i r u) ∙ a.reads x i r u f
+    | inr u ↦ ap (λ z. if z then p (plain i) else q (plain i)) (second x i r u) ∙ b.reads x i r u f
+  ];
+}

@@ -1,7 +1,6 @@
 -- What a part spells, taken apart.
-use Rattle.std.proofs.Common.{◌≡◌, ℕ, ◌&&◌, Bool, true, false, List, [], ◌∷◌, refl, sym, ◌∙◌, ap, subst, if◌then◌else◌, inl, inr}
-use Rattle.wg_grammar.specs.Spans.{Span}
-use Rattle.wg_grammar.specs.Reading.{Reader, sees, begins}
+use Rattle.std.proofs.Common.{◌≡◌, ℕ, ◌&&◌, Bool, true, false, List, [], ◌∷◌, refl, sym, ◌∙◌, ap, subst}
+use Rattle.wg_grammar.specs.Reading.{sees, begins}
 use Rattle.wg_grammar.specs.Depths.{plain}
 use Rattle.wg_grammar.specs.Parts.{Part, give, token, apply, of, Rules, spell_token, spells, ◌<*◌, ◌*>◌}
 

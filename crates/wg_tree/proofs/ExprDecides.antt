@@ -1,9 +1,9 @@
 -- The next token decides how an expression goes on.
-use Rattle.std.proofs.Common.{◌≡◌, ℕ, suc, zero, ◌&&◌, Bool, true, false, List, [], ◌∷◌, refl}
-use Rattle.wg_grammar.specs.Parts.{decides, covered, first, stops, nullable}
+use Rattle.std.proofs.Common.{◌≡◌, ℕ, suc, zero, ◌&&◌, Bool, true, refl}
+use Rattle.wg_grammar.specs.Parts.{decides, covered, stops}
 use Rattle.wg_tree.specs.Symbols.{class}
 use Rattle.wg_tree.specs.GrammarExpr.{Kind, full, constant, argument, plain_operand, cast, zeros, links, choice}
-use Rattle.wg_tree.specs.ReadsExpr.{starts, operand_stops, level_stops, expr_stops, nested_edges, level_edges, side_edges}
+use Rattle.wg_tree.specs.ReadsExpr.{operand_stops, level_stops, expr_stops, nested_edges, level_edges, side_edges}
 use Rattle.wg_tree.proofs.Examples.{example}
 
 pub cast_decides : decides class (nested_edges full) example cast ≡ true

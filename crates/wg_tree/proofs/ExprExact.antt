@@ -1,13 +1,13 @@
 -- An expression is read exactly, whatever the room.
-use Rattle.std.proofs.Common.{◌≡◌, ℕ, zero, suc, ◌+◌, ◌≤◌, ◌==◌, ◌||◌, ◌&&◌, Bool, true, false, List, [], ◌∷◌, ◌++◌, length, map, refl, sym, ◌∙◌, ap, subst, if◌then◌else◌, inl, inr, ◌⊎◌, arith, Some, None}
+use Rattle.std.proofs.Common.{◌≡◌, ℕ, zero, suc, ◌≤◌, true, false, List, [], ◌∷◌, refl, sym, ◌∙◌, ap, subst, if◌then◌else◌, inl, inr, arith, None}
 use Rattle.std.proofs.lemmas.List.{append-nil}
 use Rattle.wg_tree.specs.declared.token.Token.{Token}
 use Rattle.wg_tree.specs.declared.expr.Expr.{Expr}
 use Rattle.wg_tree.specs.declared.expr.Expr.TheVariants as e
 use Rattle.wg_grammar.specs.Spans.{Span}
-use Rattle.wg_grammar.specs.Reading.{Outcome, Got, Wrong, Deep, Reader, and_then, ◌>>=◌, pure, sees, begins, look, too_deep}
+use Rattle.wg_grammar.specs.Reading.{Got, Wrong, Deep, Reader, and_then, ◌>>=◌, pure, sees, look}
 use Rattle.wg_grammar.specs.Depths.{plain}
-use Rattle.wg_grammar.specs.Parts.{Part, list, Readers, Rules, member, of, covered, reads, spells, first, stops, decides, sub, ◌<$>◌, ◌<*>◌, ◌<*◌, ◌*>◌}
+use Rattle.wg_grammar.specs.Parts.{list, member, of, covered, reads, spells, first, stops, decides, sub, ◌<$>◌, ◌<*>◌, ◌<*◌, ◌*>◌}
 use Rattle.wg_grammar.proofs.Sets.{both_true, apart_sees, covered_true}
 use Rattle.wg_grammar.proofs.Kept.{Persists, Eats, persists_deep, eats_deep}
 use Rattle.wg_grammar.proofs.PartKept.{Grows, part_persists}
@@ -15,8 +15,8 @@ use Rattle.wg_grammar.proofs.Exact.{Exact, exact_part, exact_for, exact_never}
 use Rattle.wg_grammar.proofs.Inverse.{begins_not}
 use Rattle.wg_tree.specs.Symbols.{mark_code, NAME, ZERO, class}
 use Rattle.wg_tree.specs.Depths.{Depth, deeper}
-use Rattle.wg_tree.specs.GrammarExpr.{Kind, full, constant, argument, Nested, whole, operand, nested, Exprs, Inner, value_types, by_code, classes, operators, one_of, optional, mark, cast, zeros, link_of, plain_operand, named, called, with_forms, unary, level, links, chain, Below, lower, Lower, Sides, left, right, Side, sides, choice, chosen, expr, inner_at, expr_at}
-use Rattle.wg_tree.specs.ReadsExpr.{Inside, starts, operand_stops, level_stops, expr_stops, nested_edges, level_edges, side_edges, cast_tests, zeros_tests, read_part, read_unary, read_level, read_expr, inside_at, expr_read_at}
+use Rattle.wg_tree.specs.GrammarExpr.{Kind, full, constant, argument, Nested, whole, operand, nested, Inner, value_types, by_code, classes, operators, one_of, optional, mark, cast, zeros, link_of, plain_operand, named, called, with_forms, unary, level, links, chain, lower, Sides, left, right, sides, choice, chosen, expr, inner_at, expr_at}
+use Rattle.wg_tree.specs.ReadsExpr.{Inside, starts, operand_stops, level_stops, expr_stops, nested_edges, level_edges, side_edges, zeros_tests, read_part, read_unary, read_level, read_expr, inside_at, expr_read_at}
 use Rattle.wg_tree.proofs.Examples.{example}
 use Rattle.wg_tree.proofs.ExprDecides.{plain_decides, plain_covered, levels_decide, all_levels, choice_decides, choice_covered}
 use Rattle.wg_tree.proofs.ExprPaths.{type_wrong}
@@ -34,8 +34,8 @@ module _ (kind : Kind) (I : Inside) (R : Inner) (room : I.room ≡ R.room) (part
         let b = both_true (covered (stops (level_edges kind j) (links (suc j))) (level_stops kind (suc j))) (levels_decide kind j) a.1 in
         let below = exact_level j b.1 in
         exact_for class (starts kind) (stops (level_edges kind j) (links (suc j))) (level_stops kind (suc j)) b.0
-          (exact_from (first (level_edges kind j) (links (suc j))) (starts kind) (stops (level_edges kind j) (links (suc j))) (append-nil (starts kind))
-            (exact_part class (level_edges kind j) example (record { room = I.room; read = λ n. read_level kind I j }) (record { room = R.room; here = R.here; below = R.below; rule = λ n. level kind R j }) room (λ n. below) (links (suc j)) a.0 refl))
+        (exact_from (first (level_edges kind j) (links (suc j))) (starts kind) (stops (level_edges kind j) (links (suc j))) (append-nil (starts kind))
+        (exact_part class (level_edges kind j) example (record { room = I.room; read = λ n. read_level kind I j }) (record { room = R.room; here = R.here; below = R.below; rule = λ n. level kind R j }) room (λ n. below) (links (suc j)) a.0 refl))
 
     both_sides : (n : Sides) → Exact class (starts kind) ((side_edges kind).stops n) (sides (read_level kind I 10) (I.read whole) n) (sides (level kind R 10) (R.rule whole) n)
     both_sides left = exact_level 10 (all_levels kind)
@@ -44,7 +44,7 @@ module _ (kind : Kind) (I : Inside) (R : Inner) (room : I.room ≡ R.room) (part
     pub exact_expr : Exact class (starts kind) (expr_stops kind) (read_expr kind I) (expr kind R)
     exact_expr = exact_for class (starts kind) (stops (side_edges kind) choice) (expr_stops kind) (choice_covered kind)
         (exact_from (first (side_edges kind) choice) (starts kind) (stops (side_edges kind) choice) (append-nil (starts kind))
-          (exact_part class (side_edges kind) example (record { room = I.room; read = sides (read_level kind I 10) (I.read whole) }) (record { room = R.room; here = R.here; below = R.below; rule = sides (level kind R 10) (R.rule whole) }) room both_sides choice (choice_decides kind) refl))
+        (exact_part class (side_edges kind) example (record { room = I.room; read = sides (read_level kind I 10) (I.read whole) }) (record { room = R.room; here = R.here; below = R.below; rule = sides (level kind R 10) (R.rule whole) }) room both_sides choice (choice_decides kind) refl))
 
 -- with more room, an expression is read the same
 module _ (kind : Kind) (I J : Inside) (more : Grows I J) (operands : Persists (read_unary kind I) (read_unary kind J)) (levels : (j : ℕ) → levels_decide kind j ≡ true → Eats (read_level kind I j)) where
@@ -62,6 +62,7 @@ module _ (kind : Kind) (I J : Inside) (more : Grows I J) (operands : Persists (r
       kept : (n : Sides) → Persists (sides (read_level kind I 10) (I.read whole) n) (sides (read_level kind J 10) (J.read whole) n)
       kept left = level_grows 10 (all_levels kind)
       kept right = more.kept whole
+
       eats : (n : Sides) → Eats (sides (read_level kind I 10) (I.read whole) n)
       eats left = levels 10 (all_levels kind)
       eats right = more.eats whole
@@ -105,7 +106,7 @@ unary_type_wrong I v u ts w z =
 -- ---- every room
 
 exact_unary_const : (kind : Kind) (I : Inside) (R : Inner) → I.room ≡ R.room → ((n : Nested) → Exact class (starts kind) ((nested_edges kind).stops n) (I.read n) (R.rule n))
-  → (read_unary kind I ≡ read_part kind I (plain_operand kind)) → Exact class (starts kind) (operand_stops kind) (read_part kind I (plain_operand kind)) (spells class R (plain_operand kind))
+    → (read_unary kind I ≡ read_part kind I (plain_operand kind)) → Exact class (starts kind) (operand_stops kind) (read_part kind I (plain_operand kind)) (spells class R (plain_operand kind))
 exact_unary_const constant I R room parts q = exact_for class (starts constant) (stops (nested_edges constant) (plain_operand constant)) (operand_stops constant) (plain_covered constant) (exact_part class (nested_edges constant) example I R room parts (plain_operand constant) (plain_decides constant) refl)
 exact_unary_const argument I R room parts q = exact_for class (starts argument) (stops (nested_edges argument) (plain_operand argument)) (operand_stops argument) (plain_covered argument) (exact_part class (nested_edges argument) example I R room parts (plain_operand argument) (plain_decides argument) refl)
 exact_unary_const full I R room parts q = exact_for class (starts full) (stops (nested_edges full) (plain_operand full)) (operand_stops full) (plain_covered full) (exact_part class (nested_edges full) example I R room parts (plain_operand full) (plain_decides full) refl)
@@ -130,7 +131,8 @@ exact_expr_at kind room k d = exact_expr kind (inside_at kind room) (inner_at ki
 no_room_tells : Tells (inside_at full 0)
 no_room_tells = record {
   name = λ n u ts c d. inr (n ∷ u ∷ ts, ap (λ z. if member z (starts full) then Deep (n ∷ u ∷ ts) else Wrong (n ∷ u ∷ ts)) c);
-  type = λ v u ts w d. inr (v ∷ u ∷ ts, ap (λ z. if z then Deep (v ∷ u ∷ ts) else Wrong (v ∷ u ∷ ts)) (covered_true class (classes (by_code value_types)) (starts full) (v ∷ u ∷ ts) refl w)) }
+  type = λ v u ts w d. inr (v ∷ u ∷ ts, ap (λ z. if z then Deep (v ∷ u ∷ ts) else Wrong (v ∷ u ∷ ts)) (covered_true class (classes (by_code value_types)) (starts full) (v ∷ u ∷ ts) refl w));
+}
 
 pub nowhere : Depth
 nowhere = record { statement = 0; expression = 0 }
@@ -141,12 +143,13 @@ named_read room k n u ts c d =
     let r = annotated nowhere ts in
     let R = inner_at full room nowhere in
     subst (λ z. expr_read_at full room (n ∷ u ∷ z) ≡ Got (e.Name (named n)) (u ∷ z)) (plain_annotated nowhere ts)
-      ((exact_expr_at full room k nowhere).full.reads (e.Name (named n)) ((n, R.here) ∷ (u, nowhere) ∷ r) ((u, nowhere) ∷ r) (expr_alone full R (e.Name (named n)) ((n, R.here) ∷ (u, nowhere) ∷ r) ((u, nowhere) ∷ r) (name_alone R n ((u, nowhere) ∷ r) c)) d)
+    ((exact_expr_at full room k nowhere).full.reads (e.Name (named n)) ((n, R.here) ∷ (u, nowhere) ∷ r) ((u, nowhere) ∷ r) (expr_alone full R (e.Name (named n)) ((n, R.here) ∷ (u, nowhere) ∷ r) ((u, nowhere) ∷ r) (name_alone R n ((u, nowhere) ∷ r) c)) d)
 
 room_tells : (room : ℕ) → Known full room → Tells (inside_at full (suc room))
 room_tells room k = record {
   name = λ n u ts c d. inl (named_read room k n u ts c (ap (λ z. member z (expr_stops full)) d));
-  type = λ v u ts w d. inl (expr_wrong full (inside_at full room) (v ∷ u ∷ ts) (u ∷ ts) (unary_type_wrong (inside_at full room) v u ts w (ap (λ z. member z (mark_code "(" ∷ [])) d))) }
+  type = λ v u ts w d. inl (expr_wrong full (inside_at full room) (v ∷ u ∷ ts) (u ∷ ts) (unary_type_wrong (inside_at full room) v u ts w (ap (λ z. member z (mark_code "(" ∷ [])) d)));
+}
 
 pub known : (kind : Kind) (room : ℕ) → Known kind room
 known kind zero = record { parts = λ d n. exact_never class (starts kind) ((nested_edges kind).stops n); tells = λ q. subst (λ z. Tells (inside_at z 0)) (sym q) no_room_tells }
@@ -154,7 +157,7 @@ known kind (suc room) = let k = known kind room in
     record { parts = λ d n. pick n (deeper d) (exact_expr_at kind room k (deeper d)) (exact_unary kind room k (deeper d)); tells = λ q. subst (λ z. Tells (inside_at z (suc room))) (sym q) (room_tells room (subst (λ z. Known z room) q k)) }
   where
     pick : (n : Nested) (d : Depth) → Exact class (starts kind) (expr_stops kind) (expr_read_at kind room) (expr_at kind room d) → Exact class (starts kind) (operand_stops kind) (read_unary kind (inside_at kind room)) (unary kind (inner_at kind room d))
-      → Exact class (starts kind) ((nested_edges kind).stops n) (nested (expr_read_at kind room) (read_unary kind (inside_at kind room)) n) (nested (expr kind (inner_at kind room d)) (unary kind (inner_at kind room d)) n)
+        → Exact class (starts kind) ((nested_edges kind).stops n) (nested (expr_read_at kind room) (read_unary kind (inside_at kind room)) n) (nested (expr kind (inner_at kind room d)) (unary kind (inner_at kind room d)) n)
     pick whole d a b = a
     pick operand d a b = b
 

@@ -1,18 +1,17 @@
 -- Where an opening bracket leads.
-use Rattle.std.proofs.Common.{◌≡◌, ℕ, zero, suc, ◌+◌, ◌≤◌, ◌==◌, ◌||◌, ◌&&◌, Bool, true, false, List, [], ◌∷◌, ◌++◌, length, refl, sym, ◌∙◌, ap, subst, if◌then◌else◌, inl, inr, ◌⊎◌, arith, Some, None}
+use Rattle.std.proofs.Common.{◌≡◌, ℕ, suc, ◌==◌, ◌||◌, Bool, true, false, List, [], ◌∷◌, refl, sym, ◌∙◌, ap, subst, inl, inr, ◌⊎◌, arith}
 use Rattle.std.proofs.lemmas.Bool.{eqb-true}
 use Rattle.wg_tree.specs.declared.token.Token.{Token}
 use Rattle.wg_tree.specs.declared.expr.Expr.{Expr}
 use Rattle.wg_tree.specs.declared.expr.Expr.TheVariants as e
-use Rattle.wg_grammar.specs.Spans.{Span}
-use Rattle.wg_grammar.specs.Reading.{Outcome, Got, Wrong, Deep, Reader, and_then, ◌>>=◌, pure, sees, begins, take_if, too_deep, look}
-use Rattle.wg_grammar.specs.Takes.{Takes, matched}
-use Rattle.wg_grammar.specs.Parts.{Part, give, apply, list, either, Edges, Readers, Rules, member, of, reads, spells, first}
+use Rattle.wg_grammar.specs.Reading.{Outcome, Got, Wrong, Deep, Reader, and_then, ◌>>=◌, pure, take_if}
+use Rattle.wg_grammar.specs.Takes.{Takes}
+use Rattle.wg_grammar.specs.Parts.{Part, list, either, Edges, Readers, member, of, reads}
 use Rattle.wg_grammar.proofs.PartKept.{token_kept}
 use Rattle.wg_grammar.proofs.Look.{takes_then, takes_none, takes_more}
 use Rattle.wg_grammar.proofs.Sets.{Each, each}
 use Rattle.wg_tree.specs.Symbols.{mark_code, NAME, ZERO}
-use Rattle.wg_tree.specs.GrammarExpr.{Nested, whole, operand, Exprs, value_types, by_code, classes, Kind, full, plain_operand, cast, zeros, bracket, prime, postfix, prefixed, member_or_method, index, with_forms, inner_mark, named, value_type_of}
+use Rattle.wg_tree.specs.GrammarExpr.{Nested, whole, operand, Exprs, value_types, by_code, classes, full, plain_operand, cast, zeros, bracket, prime, postfix, member_or_method, index, with_forms, inner_mark, value_type_of}
 
 pub only : (c d : ℕ) → member c (d ∷ []) ≡ true → c ≡ d
 only c d h = go (c == d) refl h
@@ -27,7 +26,7 @@ takes_next k t ts (Wrong b) h = omega arith
 takes_next k t ts (Deep b) h = tt
 
 closing : {T X A P : Type 0} (o : Outcome T X) (p : Reader T P) (f : X → A)
-  → and_then {X = P → A} (and_then {X = A} {Y = P → A} (and_then o (λ x. pure (f x))) (λ a. pure (λ y. a))) (λ g. p >>= λ y. pure (g y)) ≡ and_then o (λ x m. and_then (p m) (λ y. pure (f x)))
+    → and_then {X = P → A} (and_then {X = A} {Y = P → A} (and_then o (λ x. pure (f x))) (λ a. pure (λ y. a))) (λ g. p >>= λ y. pure (g y)) ≡ and_then o (λ x m. and_then (p m) (λ y. pure (f x)))
 closing (Got x m) p f = refl
 closing (Wrong b) p f = refl
 closing (Deep b) p f = refl
@@ -77,6 +76,7 @@ module _ (class : Token → ℕ) (edges : Edges Nested) (I : Readers Token Neste
       where
         abbreviated : (t n u : Token) (ts : List Token) (x : Expr) → class u ≡ mark_code ")" → I.room ≡ true → Takes 3 (t ∷ n ∷ u ∷ ts) (and_then (Read (inner_mark ")") (u ∷ ts)) (λ y. pure (e.Bracket t.place x)))
         abbreviated t n u ts x d r = rw (r, d) (omega arith)
+
         go : (v : Bool) → I.room ≡ v → (I.read whole (n ∷ u ∷ ts) ≡ Got x (u ∷ ts)) ⊎ ((b : List Token) × (I.read whole (n ∷ u ∷ ts) ≡ Deep b)) → Takes 3 (t ∷ n ∷ u ∷ ts) (Read bracket (t ∷ n ∷ u ∷ ts))
         go true r (inl g) = subst (λ z. Takes 3 (t ∷ n ∷ u ∷ ts) z) (sym (open_room t (n ∷ u ∷ ts) c r ∙ ap (closed t) g)) (abbreviated t n u ts x d r)
         go true r (inr g) = subst (λ z. Takes 3 (t ∷ n ∷ u ∷ ts) z) (sym (open_room t (n ∷ u ∷ ts) c r ∙ ap (closed t) g.1)) tt

@@ -1,25 +1,25 @@
 -- An operand is read exactly, with its casts.
-use Rattle.std.proofs.Common.{◌≡◌, ℕ, zero, suc, ◌+◌, ◌≤◌, ◌==◌, ◌||◌, ◌&&◌, Bool, true, false, List, [], ◌∷◌, ◌++◌, length, refl, sym, ◌∙◌, ap, subst, if◌then◌else◌, inl, inr, ◌⊎◌, arith, Some, None}
+use Rattle.std.proofs.Common.{◌≡◌, ℕ, suc, ◌&&◌, Bool, true, false, List, [], ◌∷◌, refl, sym, ◌∙◌, ap, subst, if◌then◌else◌, inl, inr, ◌⊎◌, arith}
 use Rattle.wg_tree.specs.declared.token.Token.{Token}
 use Rattle.wg_tree.specs.declared.expr.Expr.{Expr}
 use Rattle.wg_tree.specs.declared.expr.Expr.TheVariants as e
 use Rattle.wg_tree.specs.declared.expr.Form.{Form}
-use Rattle.wg_grammar.specs.Spans.{Span, Many, ◌or◌}
+use Rattle.wg_grammar.specs.Spans.{Many, ◌or◌}
 use Rattle.wg_grammar.specs.Reading.{Outcome, Got, Wrong, Deep, Reader, sees, begins, look}
 use Rattle.wg_grammar.specs.Depths.{plain}
 use Rattle.wg_grammar.specs.Takes.{Takes, matched}
-use Rattle.wg_grammar.specs.Parts.{Part, give, token, apply, list, either, sub, Edges, Readers, Rules, member, of, covered, reads, spells, first, stops, nullable, decides, ◌<$>◌, ◌<*>◌, ◌<*◌}
+use Rattle.wg_grammar.specs.Parts.{Part, token, list, either, sub, Edges, member, of, spells, first, stops, nullable, decides, ◌<$>◌, ◌<*>◌, ◌<*◌}
 use Rattle.wg_words.specs.declared.place.Place.{Place}
 use Rattle.wg_grammar.proofs.Kept.{Persists}
 use Rattle.wg_grammar.proofs.Look.{takes_none, persists_look}
-use Rattle.wg_grammar.proofs.Sets.{both_true, covered_sees, covered_true, apart_sees}
+use Rattle.wg_grammar.proofs.Sets.{both_true, covered_true, apart_sees}
 use Rattle.wg_grammar.proofs.PartKept.{Grows, part_persists}
-use Rattle.wg_grammar.proofs.PartFull.{part_begins, begun}
+use Rattle.wg_grammar.proofs.PartFull.{part_begins}
 use Rattle.wg_grammar.proofs.Exact.{Exact, grows_self, exact_part, exact_for, exact_look}
-use Rattle.wg_grammar.proofs.Inverse.{Leads, inv_apply, inv_give, inv_two, inv_left, inv_token, begins_more, begins_tail, begins_not, begins_rest}
+use Rattle.wg_grammar.proofs.Inverse.{Leads, inv_apply, inv_two, inv_left, inv_token, begins_more, begins_tail, begins_not, begins_rest}
 use Rattle.wg_tree.specs.Symbols.{mark_code, NAME, ZERO, class}
 use Rattle.wg_tree.specs.Depths.{Depth}
-use Rattle.wg_tree.specs.GrammarExpr.{Kind, full, constant, argument, Nested, whole, operand, Exprs, Inner, value_types, value_type_of, by_code, classes, plain_operand, cast, zeros, bracket, prime, postfix, prefixed, member_or_method, index, with_forms, inner_mark, named, numbers, truths, name_or_call, construct, unary}
+use Rattle.wg_tree.specs.GrammarExpr.{full, Nested, whole, operand, Exprs, Inner, value_types, value_type_of, by_code, classes, plain_operand, cast, zeros, prime, prefixed, member_or_method, index, with_forms, inner_mark, named, numbers, truths, name_or_call, construct, unary}
 use Rattle.wg_tree.specs.ReadsExpr.{Inside, starts, operand_stops, expr_stops, nested_edges, cast_tests, zeros_tests, read_part, read_unary}
 use Rattle.wg_tree.proofs.Examples.{example}
 use Rattle.wg_tree.proofs.ExprDecides.{cast_decides, zeros_decides, plain_decides, plain_covered}
@@ -181,8 +181,9 @@ module _ (I : Inside) (R : Inner) (room : I.room ≡ R.room) (parts : (n : Neste
       let k = zeros_inside (plain b.1) (begins_tail (of class (mark_code "(" ∷ [])) (of class (NAME ∷ []) ∷ of class (mark_code ")" ∷ []) ∷ of class (ZERO ∷ []) ∷ []) i b.1 b.4 h) in
       let g = inside b.0 b.1 b.2 b.3 b.5 b.6 (k.0 ∷ k.1 ∷ k.2 ∷ k.3) k.4 in
       elim (tells.name k.0 k.1 (k.2 ∷ k.3) k.5 k.6) [
-        inl n ↦ no_zero b.7 b.3 r k.2 k.3 b.8 (sym (same_tail k.1 b.6.0 (k.2 ∷ k.3) (plain b.3) (same_rest (e.Name (named k.0)) b.0 (k.1 ∷ k.2 ∷ k.3) (plain b.2) (sym n ∙ g) ∙ ap plain b.6.3))) k.7 f
-      | inr n ↦ deep_got b.0 n.0 (plain b.2) (sym n.1 ∙ g) ]
+        | inl n ↦ no_zero b.7 b.3 r k.2 k.3 b.8 (sym (same_tail k.1 b.6.0 (k.2 ∷ k.3) (plain b.3) (same_rest (e.Name (named k.0)) b.0 (k.1 ∷ k.2 ∷ k.3) (plain b.2) (sym n ∙ g) ∙ ap plain b.6.3))) k.7 f
+        | inr n ↦ deep_got b.0 n.0 (plain b.2) (sym n.1 ∙ g)
+      ]
     where
       deep_got : (x : Expr) (b c : List Token) → ◌≡◌ {A = Outcome Token Expr} (Deep b) (Got x c) → ⊥
       deep_got x b c e = cc
@@ -195,6 +196,7 @@ module _ (I : Inside) (R : Inner) (room : I.room ≡ R.room) (parts : (n : Neste
     where
       deep_got : (x : Expr) (b c : List Token) → ◌≡◌ {A = Outcome Token Expr} (Deep b) (Got x c) → ⊥
       deep_got x b c e = cc
+
       wrong_got : (x : Expr) (b c : List Token) → ◌≡◌ {A = Outcome Token Expr} (Wrong b) (Got x c) → ⊥
       wrong_got x b c e = cc
 
@@ -235,7 +237,7 @@ module _ (I : Inside) (R : Inner) (room : I.room ≡ R.room) (parts : (n : Neste
   zeros_no_cast : (x : Expr) (i r : Cells) → spells class R zeros x i r → begins cast_tests (plain i) ≡ false
   zeros_no_cast x i r h = let k = zeros_leads x i r h in
       begins_rest (of class (mark_code "(" ∷ [])) (of class types ∷ of class (mark_code ")" ∷ []) ∷ []) i k.0 k.3
-        (begins_not (of class types) (of class (mark_code ")" ∷ []) ∷ []) (plain k.0) (apart_sees class (NAME ∷ []) types (plain k.0) refl (ap (λ z. sees (of class (NAME ∷ [])) (plain z)) k.4.3 ∙ k.4.2)))
+      (begins_not (of class types) (of class (mark_code ")" ∷ []) ∷ []) (plain k.0) (apart_sees class (NAME ∷ []) types (plain k.0) refl (ap (λ z. sees (of class (NAME ∷ [])) (plain z)) k.4.3 ∙ k.4.2)))
 
   abbrev Tail : Reader Token Expr
   Tail = look zeros_tests (read_part full I zeros) Plain
@@ -248,6 +250,7 @@ module _ (I : Inside) (R : Inner) (room : I.room ≡ R.room) (parts : (n : Neste
     where
       other : of class (NAME ∷ []) v ≡ false
       other = apart_sees class types (NAME ∷ []) (v ∷ []) refl w
+
       go : (b : Bool) → (b && (of class (NAME ∷ []) v && begins (of class (mark_code ")" ∷ []) ∷ of class (ZERO ∷ []) ∷ []) ts)) ≡ false
       go true = ap (λ z. z && begins (of class (mark_code ")" ∷ []) ∷ of class (ZERO ∷ []) ∷ []) ts) other
       go false = refl

@@ -1,6 +1,6 @@
 -- The next token decides how a text goes on.
-use Rattle.std.proofs.Common.{◌≡◌, true, refl, []}
-use Rattle.wg_grammar.specs.Parts.{decides, covered, first, stops}
+use Rattle.std.proofs.Common.{◌≡◌, true, refl}
+use Rattle.wg_grammar.specs.Parts.{decides}
 use Rattle.wg_tree.specs.Symbols.{class}
 use Rattle.wg_tree.specs.GrammarItem.{text}
 use Rattle.wg_tree.specs.ReadsItem.{outer_edges}

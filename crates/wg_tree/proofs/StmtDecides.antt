@@ -1,9 +1,9 @@
 -- The next token decides how a statement goes on, but for what begins a declaration or a step.
-use Rattle.std.proofs.Common.{◌≡◌, ◌++◌, ℕ, Bool, true, false, List, [], ◌∷◌, refl}
-use Rattle.wg_grammar.specs.Parts.{decides, covered, apart, first, stops, nullable}
-use Rattle.wg_tree.specs.Symbols.{class, NAME}
-use Rattle.wg_tree.specs.GrammarStmt.{type_classes, declared_stmt, stepped_stmt, declared_start, stepped_start, basic, head, braces}
-use Rattle.wg_tree.specs.ReadsStmt.{values_edges, step_starts, opening_stops, starting_stops, pieces_edges, head_starts, basic_starts, brace, stmt_starts, inside_edges}
+use Rattle.std.proofs.Common.{◌≡◌, ◌++◌, true, refl}
+use Rattle.wg_grammar.specs.Parts.{decides, apart}
+use Rattle.wg_tree.specs.Symbols.{class}
+use Rattle.wg_tree.specs.GrammarStmt.{declared_stmt, stepped_stmt, declared_start, stepped_start, basic, head, braces}
+use Rattle.wg_tree.specs.ReadsStmt.{values_edges, pieces_edges, head_starts, basic_starts, brace, inside_edges}
 use Rattle.wg_tree.proofs.Examples.{example}
 
 pub declared_stmt_decides : decides class values_edges example declared_stmt ≡ true

@@ -1,5 +1,5 @@
 -- A statement is read exactly, whatever the room; an `else` goes to the nearest `if`.
-use Rattle.std.proofs.Common.{◌≡◌, ℕ, zero, suc, ◌+◌, ◌≤◌, ◌||◌, ◌&&◌, Bool, true, false, List, [], ◌∷◌, ◌++◌, length, refl, sym, ◌∙◌, ap, subst, if◌then◌else◌, inl, inr, ◌⊎◌, arith, Some, None, Option}
+use Rattle.std.proofs.Common.{◌≡◌, ℕ, zero, suc, ◌≤◌, Bool, true, false, List, [], ◌∷◌, ◌++◌, refl, sym, ◌∙◌, ap, if◌then◌else◌, inl, inr, arith, Some, None}
 use Rattle.wg_words.specs.declared.place.Place.{Place}
 use Rattle.wg_tree.specs.declared.token.Token.{Token}
 use Rattle.wg_tree.specs.declared.keyword.Keyword.TheVariants as k
@@ -9,24 +9,23 @@ use Rattle.wg_tree.specs.declared.stmt.Header.{Header}
 use Rattle.wg_tree.specs.declared.stmt.Stmt.{Stmt}
 use Rattle.wg_tree.specs.declared.stmt.Stmt.TheVariants as s
 use Rattle.wg_tree.specs.declared.stmt.Stmt.TheOpen.{Stmt-F}
-use Rattle.wg_tree.specs.declared.stmt.Stmt.TheFolds.{fold-Stmt, fold-roll-Stmt}
-use Rattle.wg_grammar.specs.Spans.{Span, Seq, None_of, Leaf, Never, ◌or◌}
-use Rattle.wg_grammar.specs.Reading.{Outcome, Got, Wrong, Deep, Reader, and_then, ◌>>=◌, pure, sees, take_if, by_next, too_deep}
+use Rattle.wg_tree.specs.declared.stmt.Stmt.TheFolds.{fold-roll-Stmt}
+use Rattle.wg_grammar.specs.Spans.{Seq, Never}
+use Rattle.wg_grammar.specs.Reading.{Got, Wrong, and_then, ◌>>=◌, pure, sees, take_if, by_next}
 use Rattle.wg_grammar.specs.Depths.{plain}
-use Rattle.wg_grammar.specs.Takes.{Takes}
-use Rattle.wg_grammar.specs.Parts.{Part, of, reads, spells, first, stops, member}
-use Rattle.wg_grammar.proofs.Kept.{Persists, persists_pure, persists_bind, persists_next, persists_take_if, persists_deep, Eats, eats_first, eats_next, falls, eats_deep, falls_pure}
-use Rattle.wg_grammar.proofs.Full.{Full, full_pure, full_bind, full_for, full_next, full_take}
+use Rattle.wg_grammar.specs.Parts.{of, reads, spells, stops}
+use Rattle.wg_grammar.proofs.Kept.{Persists, persists_pure, persists_bind, persists_next, persists_take_if, persists_deep, Eats, eats_first, falls}
+use Rattle.wg_grammar.proofs.Full.{Full, full_pure, full_bind, full_for, full_next}
 use Rattle.wg_grammar.proofs.Look.{takes_none, takes_then}
-use Rattle.wg_grammar.proofs.Sets.{apart_other, sees_left, sees_right}
-use Rattle.wg_grammar.proofs.PartKept.{Grows, part_persists, part_eats}
+use Rattle.wg_grammar.proofs.Sets.{apart_other}
+use Rattle.wg_grammar.proofs.PartKept.{Grows, part_persists}
 use Rattle.wg_grammar.proofs.Exact.{Exact, exact_part, exact_for, exact_never, exact_next, exact_map, none_seen}
 use Rattle.wg_tree.specs.Symbols.{code, class}
 use Rattle.wg_tree.specs.Depths.{Depth, in_statement}
-use Rattle.wg_tree.specs.GrammarExpr.{full, constant, argument, Rule, expr_at}
-use Rattle.wg_tree.specs.GrammarStmt.{Pieces, a_value, a_const, an_argument, opening, starting, Piece, Head, if_head, while_head, for_head, basic, head, open_step, is_open, finish, pieces_rules, unbraced, Inside, statement, Insides, braces, block_of, as_block, Deeper, stmt, block, body, deeper_at}
-use Rattle.wg_tree.specs.ReadsExpr.{Reads, starts, expr_stops, expr_read_at}
-use Rattle.wg_tree.specs.ReadsStmt.{pieces_edges, pieces_readers, read_piece, read_finish, head_starts, basic_starts, brace, stmt_starts, inside_edges, read_unbraced, Below, read_stmt, read_block, read_body, below_at}
+use Rattle.wg_tree.specs.GrammarExpr.{full, constant, argument, Rule}
+use Rattle.wg_tree.specs.GrammarStmt.{Pieces, a_value, a_const, an_argument, opening, starting, Head, if_head, while_head, for_head, basic, head, open_step, is_open, finish, pieces_rules, unbraced, braces, block_of, Deeper, stmt, block, body, deeper_at}
+use Rattle.wg_tree.specs.ReadsExpr.{Reads}
+use Rattle.wg_tree.specs.ReadsStmt.{pieces_edges, pieces_readers, read_finish, head_starts, basic_starts, brace, stmt_starts, inside_edges, read_unbraced, Below, read_stmt, read_block, read_body, below_at}
 use Rattle.wg_tree.proofs.Examples.{example}
 use Rattle.wg_tree.proofs.ExprExact.{known, exact_expr_at, expr_more, nowhere}
 use Rattle.wg_tree.proofs.StmtDecides.{basic_decides, head_decides, braces_decides, heads_apart, brace_apart}
@@ -70,17 +69,19 @@ module _ (room : ℕ) (d : Depth) (p : Reads Stmt) (P : Rule Stmt) where
 
     if_read : (a : List Attribute) (place : Place) (t : Expr) (y : Stmt) (i r : List (Token × Depth)) → finish P d (if_head a place t) y i r → NoElse y (plain r) → read_finish room p (if_head a place t) (plain i) ≡ Got y (plain r)
     if_read a place t y i r h f = elim h.3 [
-          inl q ↦ let last : sees (of class elses) (plain r) ≡ false = f (ap is_open q.0 ∙ if_alone a place t h.0) in
-              ap (λ o. and_then o (more a place t)) (b.reads h.0 i h.1 h.2 (λ _. ap (λ z. sees (of class elses) (plain z)) q.1 ∙ last))
-              ∙ ap (λ z. more a place t h.0 (plain z)) q.1 ∙ stopped a place t h.0 (plain r) last ∙ ap (λ z. Got z (plain r)) (sym q.0)
-        | inr q ↦ let l = q.1.2 in let w = q.1.3 in
-              ap (λ o. and_then o (more a place t)) (b.reads h.0 i h.1 h.2 (λ o. absurd (let e : true ≡ false = sym o ∙ q.0 in cc)))
-              ∙ ap (λ z. more a place t h.0 (plain z)) l.3 ∙ went_on a place t h.0 l.0 (plain q.1.1) l.1
-              ∙ ap (λ o. and_then o (λ y. pure (s.If a place t h.0 (Some y)))) (b.reads w.0 q.1.1 w.1 w.2 (λ o. ap (λ z. sees (of class elses) (plain z)) w.3.1 ∙ f (ap is_open w.3.0 ∙ if_else a place t h.0 w.0 ∙ o)))
-              ∙ ap (λ z. Got (s.If a place t h.0 (Some w.0)) (plain z)) w.3.1 ∙ ap (λ z. Got z (plain r)) (sym w.3.0) ]
+      | inl q ↦ let last : sees (of class elses) (plain r) ≡ false = f (ap is_open q.0 ∙ if_alone a place t h.0) in
+          ap (λ o. and_then o (more a place t)) (b.reads h.0 i h.1 h.2 (λ _. ap (λ z. sees (of class elses) (plain z)) q.1 ∙ last))
+          ∙ ap (λ z. more a place t h.0 (plain z)) q.1 ∙ stopped a place t h.0 (plain r) last ∙ ap (λ z. Got z (plain r)) (sym q.0)
+      | inr q ↦ let l = q.1.2 in let w = q.1.3 in
+          ap (λ o. and_then o (more a place t)) (b.reads h.0 i h.1 h.2 (λ o. absurd (let e : true ≡ false = sym o ∙ q.0 in cc)))
+          ∙ ap (λ z. more a place t h.0 (plain z)) l.3 ∙ went_on a place t h.0 l.0 (plain q.1.1) l.1
+          ∙ ap (λ o. and_then o (λ y. pure (s.If a place t h.0 (Some y)))) (b.reads w.0 q.1.1 w.1 w.2 (λ o. ap (λ z. sees (of class elses) (plain z)) w.3.1 ∙ f (ap is_open w.3.0 ∙ if_else a place t h.0 w.0 ∙ o)))
+          ∙ ap (λ z. Got (s.If a place t h.0 (Some w.0)) (plain z)) w.3.1 ∙ ap (λ z. Got z (plain r)) (sym w.3.0)
+    ]
       where
         stopped : (a : List Attribute) (place : Place) (t : Expr) (x : Stmt) (ts : List Token) → sees (of class elses) ts ≡ false → more a place t x ts ≡ Got (s.If a place t x None) ts
         stopped a place t x ts e = ap (λ z. if z then (take_if (of class elses) (λ t. t.place) >>= λ _. p >>= λ y. pure (s.If a place t x (Some y))) ts else Got (s.If a place t x None) ts) e
+
         went_on : (a : List Attribute) (place : Place) (t : Expr) (x : Stmt) (u : Token) (ts : List Token) → of class elses u ≡ true → more a place t x (u ∷ ts) ≡ and_then (p ts) (λ y. pure (s.If a place t x (Some y)))
         went_on a place t x u ts e =
             ap (λ z. if z then (take_if (of class elses) (λ t. t.place) >>= λ _. p >>= λ y. pure (s.If a place t x (Some y))) (u ∷ ts) else Got (s.If a place t x None) (u ∷ ts)) e
@@ -124,12 +125,14 @@ module _ (room : ℕ) (d : Depth) where
       refuses = λ ts e. ap (λ z. and_then z (read_finish room p)) (exact_head.refuses ts e);
       bites = λ ts e. takes_then 1 ts (reads class pieces_edges (pieces_readers room) head ts) (read_finish room p) (exact_head.bites ts e) (λ h m. takes_none (finish_self h) m);
       begins = λ x i r h. exact_head.begins h.0 i h.1 h.2;
-      full = full_for (λ x ts f o. f) headed_whole }
+      full = full_for (λ x ts f o. f) headed_whole;
+    }
 
     pub unbraced_exact : ExactBody (read_unbraced room p) (unbraced room d P) (head_starts ++ basic_starts)
     unbraced_exact = record {
       exact = exact_next class head_starts basic_starts elses heads_apart headed_exact (exact_for class basic_starts [] elses refl exact_basic);
-      whole = full_next (of class head_starts) headed_whole (full_for (λ x ts f. none_seen class ts) exact_basic.full) headed_exact.begins (λ x i r h. apart_other class head_starts basic_starts (plain i) heads_apart (exact_basic.begins x i r h)) }
+      whole = full_next (of class head_starts) headed_whole (full_for (λ x ts f. none_seen class ts) exact_basic.full) headed_exact.begins (λ x i r h. apart_other class head_starts basic_starts (plain i) heads_apart (exact_basic.begins x i r h));
+    }
 
   -- what is read with this block and this body one deeper
   module _ (B : Below) (L : Deeper) (blocks : Exact class brace [] B.block L.block) (bodies : ExactBody B.body L.body stmt_starts) where
@@ -145,7 +148,8 @@ module _ (room : ℕ) (d : Depth) where
     exact_body : ExactBody (read_body room B) (body room d L) stmt_starts
     exact_body = record {
       exact = exact_next class brace (head_starts ++ basic_starts) elses brace_apart (exact_for class brace [] elses refl (exact_map class brace [] block_of exact_block)) plain_exact.exact;
-      whole = full_next (of class brace) (full_for (λ x ts f. none_seen class ts) (exact_map class brace [] block_of exact_block).full) plain_exact.whole (exact_map class brace [] block_of exact_block).begins (λ x i r h. apart_other class brace (head_starts ++ basic_starts) (plain i) brace_apart (plain_exact.exact.begins x i r h)) }
+      whole = full_next (of class brace) (full_for (λ x ts f. none_seen class ts) (exact_map class brace [] block_of exact_block).full) plain_exact.whole (exact_map class brace [] block_of exact_block).begins (λ x i r h. apart_other class brace (head_starts ++ basic_starts) (plain i) brace_apart (plain_exact.exact.begins x i r h));
+    }
 
 -- ---- every room
 
@@ -156,10 +160,12 @@ pub record KnownStmt (room depth : ℕ) : Type 0 where
 pub known_stmt : (room depth : ℕ) → KnownStmt room depth
 known_stmt room zero = record {
   block = λ d. exact_never class brace [];
-  body = λ d. record { exact = exact_never class stmt_starts elses; whole = record { reads = λ x i r h f. absurd h } } }
+  body = λ d. record { exact = exact_never class stmt_starts elses; whole = record { reads = λ x i r h f. absurd h } };
+}
 known_stmt room (suc depth) = let k = known_stmt room depth in record {
   block = λ d. exact_block room (in_statement d) (below_at room depth) (deeper_at room depth (in_statement d)) (k.block (in_statement d)) (k.body (in_statement d));
-  body = λ d. exact_body room (in_statement d) (below_at room depth) (deeper_at room depth (in_statement d)) (k.block (in_statement d)) (k.body (in_statement d)) }
+  body = λ d. exact_body room (in_statement d) (below_at room depth) (deeper_at room depth (in_statement d)) (k.block (in_statement d)) (k.body (in_statement d));
+}
 
 -- ---- more room
 
@@ -191,7 +197,8 @@ block_more room more l B C h eats = part_persists class inside_edges example (re
 pub below_more : (room more depth deep : ℕ) → room ≤ more → depth ≤ deep → MoreStmt (below_at room depth) (below_at more deep)
 below_more room more zero deep l g = let k = known_stmt more deep in record {
   block = persists_deep (of class brace) ((k.block nowhere).refuses);
-  body = persists_deep (of class stmt_starts) ((k.body nowhere).exact.refuses) }
+  body = persists_deep (of class stmt_starts) ((k.body nowhere).exact.refuses);
+}
 below_more room more (suc depth) zero l g = absurd (omega arith)
 below_more room more (suc depth) (suc deep) l g =
     let h = below_more room more depth deep l (omega arith) in

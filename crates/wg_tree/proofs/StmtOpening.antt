@@ -1,5 +1,5 @@
 -- What begins as a declaration or as a step is read exactly.
-use Rattle.std.proofs.Common.{◌≡◌, ℕ, zero, suc, ◌+◌, ◌≤◌, ◌==◌, ◌||◌, ◌&&◌, Bool, true, false, List, [], ◌∷◌, ◌++◌, length, refl, sym, ◌∙◌, ap, subst, if◌then◌else◌, inl, inr, ◌⊎◌, arith, Some, None, Option}
+use Rattle.std.proofs.Common.{◌≡◌, ℕ, suc, ◌≤◌, ◌==◌, ◌||◌, ◌&&◌, Bool, true, false, List, [], ◌∷◌, refl, sym, ◌∙◌, ap, subst, if◌then◌else◌, inl, inr, arith, None, Option}
 use Rattle.wg_tree.specs.declared.token.Token.{Token}
 use Rattle.wg_tree.specs.declared.expr.Expr.{Expr}
 use Rattle.wg_tree.specs.declared.expr.Named.{Named}
@@ -14,23 +14,23 @@ use Rattle.wg_tree.specs.declared.stmt.Start.{Start}
 use Rattle.wg_tree.specs.declared.stmt.Start.TheVariants as start
 use Rattle.wg_tree.specs.declared.stmt.Stmt.{Stmt}
 use Rattle.wg_tree.specs.declared.stmt.Stmt.TheVariants as s
-use Rattle.wg_grammar.specs.Spans.{Span, Many, ◌or◌}
-use Rattle.wg_grammar.specs.Reading.{Outcome, Got, Wrong, Deep, Reader, sees, begins, look}
+use Rattle.wg_grammar.specs.Spans.{Span, ◌or◌}
+use Rattle.wg_grammar.specs.Reading.{Outcome, Got, Wrong, Reader, sees, begins, look}
 use Rattle.wg_grammar.specs.Depths.{plain}
 use Rattle.wg_grammar.specs.Takes.{Takes, matched}
-use Rattle.wg_grammar.specs.Parts.{Part, give, token, apply, list, either, sub, member, of, covered, apart, reads, spells, first, stops, nullable, decides, ◌<$>◌, ◌<*>◌, ◌<*◌, ◌*>◌}
+use Rattle.wg_grammar.specs.Parts.{Part, list, sub, member, of, reads, spells, first, stops, nullable, decides, ◌<$>◌, ◌<*>◌, ◌*>◌}
 use Rattle.wg_grammar.proofs.Kept.{Persists}
 use Rattle.wg_grammar.proofs.Look.{takes_none, persists_look}
-use Rattle.wg_grammar.proofs.Sets.{both_true, covered_sees, covered_true, apart_sees, apart_other, sees_none}
+use Rattle.wg_grammar.proofs.Sets.{both_true, covered_sees, covered_true, apart_sees, sees_none}
 use Rattle.wg_grammar.proofs.PartKept.{Grows, part_persists}
 use Rattle.wg_grammar.proofs.PartFull.{begun}
-use Rattle.wg_grammar.proofs.Exact.{Exact, exact_part, exact_for, exact_look, grows_self}
-use Rattle.wg_grammar.proofs.Inverse.{Leads, inv_apply, inv_give, inv_two, inv_left, inv_token, begins_more, begins_not, begins_tail}
+use Rattle.wg_grammar.proofs.Exact.{Exact, exact_part, exact_for, exact_look}
+use Rattle.wg_grammar.proofs.Inverse.{inv_apply, inv_give, inv_two, inv_token, begins_more, begins_not}
 use Rattle.wg_tree.specs.Symbols.{mark_code, NAME, class}
 use Rattle.wg_tree.specs.Depths.{Depth}
-use Rattle.wg_tree.specs.GrammarExpr.{full, constant, by_code, classes, value_types, name, named, one_of, mark, optional, expr_at, inner_at}
+use Rattle.wg_tree.specs.GrammarExpr.{full, constant, by_code, classes, value_types, name, named, one_of, mark, optional}
 use Rattle.wg_tree.specs.GrammarStmt.{type_classes, type_of, a_type, declarator, declaration, size_of, step_rest, a_step, steps, step_operators, step_operator_of, Values, value, const, Value, values_rules, declared_stmt, stepped_stmt, declared_start, stepped_start}
-use Rattle.wg_tree.specs.ReadsExpr.{starts, expr_stops, expr_read_at, inside_at}
+use Rattle.wg_tree.specs.ReadsExpr.{expr_stops, expr_read_at, inside_at}
 use Rattle.wg_tree.specs.ReadsStmt.{values_edges, declares, step_starts, opening_stops, starting_stops, values_readers}
 use Rattle.wg_tree.proofs.Examples.{example}
 use Rattle.wg_tree.proofs.ExprPaths.{only}
@@ -67,7 +67,7 @@ module _ (room : ℕ) (d : Depth) where
       let c = inv_apply class (values_rules room d) (named_with <$> name <*> size_of (sub const)) (optional (mark "=" *> sub value)) b.1 b.2 a.2 b.4 in
       let g = inv_two class (values_rules room d) named_with name (size_of (sub const)) c.0 b.2 c.2 c.3 in
       begins_more (of class type_classes) (of class (NAME ∷ []) ∷ []) i b.2 (inv_token class (values_rules room d) false type_classes type_of b.0 i b.2 b.3)
-        (begins_more (of class (NAME ∷ [])) [] b.2 g.2 (inv_token class (values_rules room d) false (NAME ∷ []) named g.0 b.2 g.2 g.3) refl)
+      (begins_more (of class (NAME ∷ [])) [] b.2 g.2 (inv_token class (values_rules room d) false (NAME ∷ []) named g.0 b.2 g.2 g.3) refl)
 
   two_tokens : (ts : List Token) → begins declares ts ≡ true → (t n : Token) × (rest : List Token) × (ts ≡ t ∷ n ∷ rest) × (of class type_classes t ≡ true) × (class n ≡ NAME)
   two_tokens [] h = absurd (cc)
@@ -160,6 +160,7 @@ module _ (room : ℕ) (d : Depth) where
           at : (v : Bool) → (v && true) ≡ false → v ≡ false
           at true b = absurd (cc)
           at false b = refl
+
       go : (v : Bool) → of class type_classes t ≡ v → (v && begins (of class (NAME ∷ []) ∷ []) ts) ≡ false → Takes (if v then suc (matched (of class (NAME ∷ []) ∷ []) ts) else 0) (t ∷ ts) (q (t ∷ ts))
       go true w b = subst (λ m. Takes (suc m) (t ∷ ts) (q (t ∷ ts))) (sym (fewer ts b)) (h.bites (t ∷ ts) (covered_true class type_classes step_starts (t ∷ ts) refl w))
       go false w b = takes_none h.self (t ∷ ts)

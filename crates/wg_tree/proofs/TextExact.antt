@@ -1,19 +1,17 @@
 -- A text is read exactly, whatever the room, so no list of tokens spells two trees.
-use Rattle.std.proofs.Common.{◌≡◌, ℕ, zero, suc, ◌+◌, ◌≤◌, Bool, true, false, List, [], ◌∷◌, ◌++◌, refl, sym, ◌∙◌, ap, subst, arith, inl, inr}
+use Rattle.std.proofs.Common.{◌≡◌, ℕ, ◌+◌, ◌≤◌, List, [], refl, sym, ◌∙◌, ap, arith}
 use Rattle.wg_tree.specs.declared.token.Token.{Token}
 use Rattle.wg_tree.specs.declared.item.Source.{Source}
-use Rattle.wg_grammar.specs.Reading.{Outcome, Got, Wrong, Deep, sees}
+use Rattle.wg_grammar.specs.Reading.{Outcome, Got, Wrong, Deep}
 use Rattle.wg_grammar.specs.Depths.{plain}
-use Rattle.wg_grammar.specs.Parts.{of, reads, spells, first, stops}
 use Rattle.wg_grammar.proofs.Kept.{Persists, Kept}
-use Rattle.wg_grammar.proofs.Full.{Full}
-use Rattle.wg_grammar.proofs.PartKept.{Grows, part_persists}
+use Rattle.wg_grammar.proofs.PartKept.{part_persists}
 use Rattle.wg_grammar.proofs.PartFull.{part_full}
 use Rattle.wg_grammar.proofs.Exact.{Exact, grows_self}
 use Rattle.wg_tree.specs.Symbols.{class}
 use Rattle.wg_tree.specs.Depths.{Depth}
 use Rattle.wg_tree.specs.GrammarExpr.{constant, argument}
-use Rattle.wg_tree.specs.GrammarItem.{Outer, a_const, an_argument, a_block, Outers, text, outermost, outer_rules, SpellsWithin, Spells}
+use Rattle.wg_tree.specs.GrammarItem.{Outer, a_const, an_argument, a_block, text, outermost, outer_rules, SpellsWithin, Spells}
 use Rattle.wg_tree.specs.ReadsItem.{outer_edges, outer_readers, read_text}
 use Rattle.wg_tree.proofs.Examples.{example}
 use Rattle.wg_tree.proofs.ExprExact.{known, exact_expr_at, expr_more}

@@ -1,5 +1,5 @@
 -- The grammar of expressions, as a relation. Its productions are data, which `spells` of wg_grammar reads; no preview and no longest match. This project's profile of HLSL.
-use Rattle.std.specs.Prelude.{◌≡◌, ℕ, zero, suc, ◌==◌, ◌||◌, Bool, true, false, if◌then◌else◌, List, [], ◌∷◌, ◌++◌, map, Option, Some, None}
+use Rattle.std.specs.Prelude.{ℕ, zero, suc, ◌==◌, true, false, if◌then◌else◌, List, [], ◌∷◌, map, Option, Some, None}
 use Prim.Native.String.{String}
 use Rattle.wg_words.specs.declared.place.Place.{Place}
 use Rattle.wg_tree.specs.declared.token.Token.{Token}
@@ -11,8 +11,6 @@ use Rattle.wg_tree.specs.declared.expr.Named.{Named}
 use Rattle.wg_tree.specs.declared.expr.Scalar.TheVariants as scalar
 use Rattle.wg_tree.specs.declared.expr.ValueType.{ValueType}
 use Rattle.wg_tree.specs.declared.expr.ValueType.TheVariants as value_type
-use Rattle.wg_tree.specs.declared.expr.TypeName.{TypeName}
-use Rattle.wg_tree.specs.declared.expr.TypeName.TheVariants as type_name
 use Rattle.wg_tree.specs.declared.expr.PrefixOperator.{PrefixOperator}
 use Rattle.wg_tree.specs.declared.expr.PrefixOperator.TheVariants as prefix
 use Rattle.wg_tree.specs.declared.expr.BinaryOperator.{BinaryOperator}
@@ -24,7 +22,7 @@ use Rattle.wg_tree.specs.declared.expr.Form.TheVariants as form
 use Rattle.wg_tree.specs.declared.expr.Link.{Link, roll-Link}
 use Rattle.wg_grammar.specs.Spans.{Span, Never, ◌or◌}
 use Rattle.wg_grammar.specs.Parts.{Part, give, token, list, sub, ◌<*>◌, ◌<$>◌, ◌<*◌, ◌*>◌, ◌<|>◌, Rules, spells}
-use Rattle.wg_tree.specs.Symbols.{mark_code, NAME, ZERO, NUMBER, TEXT, code, keyword_of, class}
+use Rattle.wg_tree.specs.Symbols.{mark_code, NAME, ZERO, NUMBER, TEXT, code, class}
 use Rattle.wg_tree.specs.Depths.{Depth, deeper}
 
 -- ---- what tokens spell
@@ -49,8 +47,8 @@ bytes_of _ = []
 
 abbrev pub value_types : List (Keyword × ValueType)
 value_types = (k.Bool, value_type.Scalar scalar.Bool) ∷ (k.Bool2, value_type.Vector scalar.Bool 2) ∷ (k.Bool3, value_type.Vector scalar.Bool 3) ∷ (k.Bool4, value_type.Vector scalar.Bool 4)
-  ∷ (k.Int, value_type.Scalar scalar.Int) ∷ (k.Int2, value_type.Vector scalar.Int 2) ∷ (k.Int3, value_type.Vector scalar.Int 3) ∷ (k.Int4, value_type.Vector scalar.Int 4)
-  ∷ (k.Uint, value_type.Scalar scalar.Uint) ∷ (k.Uint2, value_type.Vector scalar.Uint 2) ∷ (k.Uint3, value_type.Vector scalar.Uint 3) ∷ (k.Uint4, value_type.Vector scalar.Uint 4) ∷ []
+    ∷ (k.Int, value_type.Scalar scalar.Int) ∷ (k.Int2, value_type.Vector scalar.Int 2) ∷ (k.Int3, value_type.Vector scalar.Int 3) ∷ (k.Int4, value_type.Vector scalar.Int 4)
+    ∷ (k.Uint, value_type.Scalar scalar.Uint) ∷ (k.Uint2, value_type.Vector scalar.Uint 2) ∷ (k.Uint3, value_type.Vector scalar.Uint 3) ∷ (k.Uint4, value_type.Vector scalar.Uint 4) ∷ []
 
 -- what a table has for a class, and the other where it has none
 abbrev pub at_class : {X : Type 0} → List (ℕ × X) → X → ℕ → X
@@ -72,15 +70,15 @@ prefix_operator t = at_class prefix_operators prefix.Minus (class t)
 -- the two-sided operators of a level, from the tightest, which is 1
 abbrev pub operators : ℕ → List (ℕ × BinaryOperator)
 operators level = if level == 1 then (mark_code "*", binary.Multiply) ∷ (mark_code "/", binary.Divide) ∷ (mark_code "%", binary.Remainder) ∷ []
-  else (if level == 2 then (mark_code "+", binary.Add) ∷ (mark_code "-", binary.Subtract) ∷ []
-  else (if level == 3 then (mark_code "<<", binary.ShiftLeft) ∷ (mark_code ">>", binary.ShiftRight) ∷ []
-  else (if level == 4 then (mark_code "<", binary.Less) ∷ (mark_code ">", binary.Greater) ∷ (mark_code "<=", binary.AtMost) ∷ (mark_code ">=", binary.AtLeast) ∷ []
-  else (if level == 5 then (mark_code "==", binary.Equal) ∷ (mark_code "!=", binary.NotEqual) ∷ []
-  else (if level == 6 then (mark_code "&", binary.BitAnd) ∷ []
-  else (if level == 7 then (mark_code "^", binary.BitXor) ∷ []
-  else (if level == 8 then (mark_code "|", binary.BitOr) ∷ []
-  else (if level == 9 then (mark_code "&&", binary.And) ∷ []
-  else (mark_code "||", binary.Or) ∷ []))))))))
+    else (if level == 2 then (mark_code "+", binary.Add) ∷ (mark_code "-", binary.Subtract) ∷ []
+    else (if level == 3 then (mark_code "<<", binary.ShiftLeft) ∷ (mark_code ">>", binary.ShiftRight) ∷ []
+    else (if level == 4 then (mark_code "<", binary.Less) ∷ (mark_code ">", binary.Greater) ∷ (mark_code "<=", binary.AtMost) ∷ (mark_code ">=", binary.AtLeast) ∷ []
+    else (if level == 5 then (mark_code "==", binary.Equal) ∷ (mark_code "!=", binary.NotEqual) ∷ []
+    else (if level == 6 then (mark_code "&", binary.BitAnd) ∷ []
+    else (if level == 7 then (mark_code "^", binary.BitXor) ∷ []
+    else (if level == 8 then (mark_code "|", binary.BitOr) ∷ []
+    else (if level == 9 then (mark_code "&&", binary.And) ∷ []
+    else (mark_code "||", binary.Or) ∷ []))))))))
 
 abbrev pub binary_operator : ℕ → Token → BinaryOperator
 binary_operator level t = at_class (operators level) binary.Or (class t)

@@ -1,13 +1,11 @@
 -- The grammar of a text, as a relation, and which texts are viable. This project's profile of HLSL.
-use Rattle.std.specs.Prelude.{◌≡◌, ℕ, zero, suc, ◌==◌, Bool, true, false, List, [], ◌∷◌, ◌++◌, Option, Some, None}
+use Rattle.std.specs.Prelude.{◌≡◌, ℕ, ◌==◌, true, false, List, [], ◌∷◌, ◌++◌, Option}
 use Rattle.wg_words.specs.declared.place.Place.{Place}
 use Rattle.wg_tree.specs.declared.token.Token.{Token}
 use Rattle.wg_tree.specs.declared.keyword.Keyword.TheVariants as k
 use Rattle.wg_tree.specs.declared.expr.Named.{Named}
-use Rattle.wg_tree.specs.declared.expr.TypeName.{TypeName}
 use Rattle.wg_tree.specs.declared.expr.Expr.{Expr}
 use Rattle.wg_tree.specs.declared.stmt.Attribute.{Attribute}
-use Rattle.wg_tree.specs.declared.stmt.ObjectType.{ObjectType}
 use Rattle.wg_tree.specs.declared.stmt.Stmt.{Stmt}
 use Rattle.wg_tree.specs.declared.item.Field.{Field}
 use Rattle.wg_tree.specs.declared.item.BufferType.{BufferType}
@@ -15,7 +13,6 @@ use Rattle.wg_tree.specs.declared.item.BufferType.TheVariants as buffer_type
 use Rattle.wg_tree.specs.declared.item.Direction.{Direction}
 use Rattle.wg_tree.specs.declared.item.Direction.TheVariants as direction
 use Rattle.wg_tree.specs.declared.item.Directed.{Directed}
-use Rattle.wg_tree.specs.declared.item.ParameterType.{ParameterType}
 use Rattle.wg_tree.specs.declared.item.ParameterType.TheVariants as parameter_type
 use Rattle.wg_tree.specs.declared.item.Parameter.{Parameter}
 use Rattle.wg_tree.specs.declared.item.ResultType.{ResultType}
@@ -23,12 +20,11 @@ use Rattle.wg_tree.specs.declared.item.ResultType.TheVariants as result_type
 use Rattle.wg_tree.specs.declared.item.Item.{Item}
 use Rattle.wg_tree.specs.declared.item.Item.TheVariants as item
 use Rattle.wg_tree.specs.declared.item.Source.{Source}
-use Rattle.wg_grammar.specs.Spans.{Span}
 use Rattle.wg_grammar.specs.Depths.{plain}
 use Rattle.wg_grammar.specs.Parts.{Part, give, token, list, sub, ◌<*>◌, ◌<$>◌, ◌<*◌, ◌*>◌, ◌<|>◌, Rules, spells}
 use Rattle.wg_tree.specs.Symbols.{code, class}
 use Rattle.wg_tree.specs.Depths.{Depth}
-use Rattle.wg_tree.specs.GrammarExpr.{constant, argument, mark, word, name, one_of, optional, at_class, by_code, Rule, expr_at}
+use Rattle.wg_tree.specs.GrammarExpr.{constant, argument, mark, word, name, one_of, optional, at_class, Rule, expr_at}
 use Rattle.wg_tree.specs.GrammarStmt.{a_type, object, record_objects, size_of, attribute, deeper_at}
 
 pub data Outer : Type 0 where
@@ -55,7 +51,7 @@ struct_item = (λ place attributes name fields. item.Struct place attributes nam
 
 abbrev pub a_buffer_type : Part Token Outer Outers BufferType
 a_buffer_type = ((λ t. buffer_type.Raw t.place (class t == code k.RwByteAddressBuffer)) <$> one_of (code k.RwByteAddressBuffer ∷ code k.ByteAddressBuffer ∷ []))
-  <|> ((λ t of. buffer_type.Structured t.place (class t == code k.RwStructuredBuffer) of) <$> one_of (code k.RwStructuredBuffer ∷ code k.StructuredBuffer ∷ []) <*> (mark "<" *> a_type <* mark ">"))
+    <|> ((λ t of. buffer_type.Structured t.place (class t == code k.RwStructuredBuffer) of) <$> one_of (code k.RwStructuredBuffer ∷ code k.StructuredBuffer ∷ []) <*> (mark "<" *> a_type <* mark ">"))
 
 abbrev pub registers : Part Token Outer Outers (List Named)
 registers = (mark ":" *> (word k.Register *> (mark "(" *> ((λ x xs. x ∷ xs) <$> name <*> list (mark "," *> name)) <* mark ")"))) <|> give []
@@ -80,8 +76,8 @@ directed t = record { place = t.place; direction = at_class directions direction
 
 abbrev pub a_parameter : Part Token Outer Outers Parameter
 a_parameter = (λ attributes direction of name semantic. record { attributes = attributes; direction = direction; of = of; name = name; semantic = semantic })
-  <$> attributes <*> optional (token false (code k.In ∷ code k.Out ∷ code k.InOut ∷ []) directed)
-  <*> (((λ of. parameter_type.Value of) <$> a_type) <|> ((λ of. parameter_type.Object of) <$> object record_objects)) <*> name <*> semantic
+    <$> attributes <*> optional (token false (code k.In ∷ code k.Out ∷ code k.InOut ∷ []) directed)
+    <*> (((λ of. parameter_type.Value of) <$> a_type) <|> ((λ of. parameter_type.Object of) <$> object record_objects)) <*> name <*> semantic
 
 abbrev pub parameters : Part Token Outer Outers (List Parameter)
 parameters = mark "(" *> (((λ x xs. x ∷ xs) <$> a_parameter <*> list (mark "," *> a_parameter)) <|> give []) <* mark ")"

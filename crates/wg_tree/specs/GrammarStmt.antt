@@ -1,10 +1,9 @@
 -- The grammar of statements, as a relation. This project's profile of HLSL.
-use Rattle.std.specs.Prelude.{◌≡◌, ℕ, zero, suc, ◌==◌, ◌||◌, Bool, true, false, if◌then◌else◌, List, [], ◌∷◌, ◌++◌, map, Option, Some, None}
+use Rattle.std.specs.Prelude.{◌≡◌, ℕ, zero, suc, ◌==◌, Bool, true, false, if◌then◌else◌, List, [], ◌∷◌, ◌++◌, Option, Some, None}
 use Rattle.wg_words.specs.declared.place.Place.{Place}
 use Rattle.wg_tree.specs.declared.token.Token.{Token}
 use Rattle.wg_tree.specs.declared.keyword.Keyword.{Keyword}
 use Rattle.wg_tree.specs.declared.keyword.Keyword.TheVariants as k
-use Rattle.wg_tree.specs.declared.expr.Named.{Named}
 use Rattle.wg_tree.specs.declared.expr.TypeName.{TypeName}
 use Rattle.wg_tree.specs.declared.expr.TypeName.TheVariants as type_name
 use Rattle.wg_tree.specs.declared.expr.Expr.{Expr}
@@ -28,11 +27,11 @@ use Rattle.wg_tree.specs.declared.stmt.Stmt.{Stmt}
 use Rattle.wg_tree.specs.declared.stmt.Stmt.TheVariants as s
 use Rattle.wg_tree.specs.declared.stmt.Stmt.TheOpen.{Stmt-F}
 use Rattle.wg_tree.specs.declared.stmt.Stmt.TheFolds.{fold-Stmt}
-use Rattle.wg_grammar.specs.Spans.{Span, Seq, None_of, Leaf, Never, ◌or◌}
+use Rattle.wg_grammar.specs.Spans.{Seq, None_of, Leaf, Never, ◌or◌}
 use Rattle.wg_grammar.specs.Parts.{Part, give, token, list, sub, ◌<*>◌, ◌<$>◌, ◌<*◌, ◌*>◌, ◌<|>◌, Rules, of, spells}
 use Rattle.wg_tree.specs.Symbols.{mark_code, NAME, code, class}
 use Rattle.wg_tree.specs.Depths.{Depth, in_statement}
-use Rattle.wg_tree.specs.GrammarExpr.{Kind, full, constant, argument, value_types, value_type_of, at_class, by_code, classes, named, mark, word, name, one_of, optional, Rule, expr_at}
+use Rattle.wg_tree.specs.GrammarExpr.{full, constant, argument, value_types, value_type_of, at_class, by_code, classes, named, mark, word, name, one_of, optional, Rule, expr_at}
 
 -- ---- what tokens spell
 
@@ -45,8 +44,8 @@ type_of t = if class t == NAME then type_name.Struct (named t) else type_name.Va
 -- the objects with a record type
 abbrev pub record_objects : List (Keyword × ObjectWord)
 record_objects = (k.DispatchNodeInputRecord, object_word.DispatchNodeInputRecord) ∷ (k.RwDispatchNodeInputRecord, object_word.RwDispatchNodeInputRecord) ∷ (k.GroupNodeInputRecords, object_word.GroupNodeInputRecords)
-  ∷ (k.RwGroupNodeInputRecords, object_word.RwGroupNodeInputRecords) ∷ (k.ThreadNodeInputRecord, object_word.ThreadNodeInputRecord) ∷ (k.RwThreadNodeInputRecord, object_word.RwThreadNodeInputRecord)
-  ∷ (k.NodeOutput, object_word.NodeOutput) ∷ (k.NodeOutputArray, object_word.NodeOutputArray) ∷ []
+    ∷ (k.RwGroupNodeInputRecords, object_word.RwGroupNodeInputRecords) ∷ (k.ThreadNodeInputRecord, object_word.ThreadNodeInputRecord) ∷ (k.RwThreadNodeInputRecord, object_word.RwThreadNodeInputRecord)
+    ∷ (k.NodeOutput, object_word.NodeOutput) ∷ (k.NodeOutputArray, object_word.NodeOutputArray) ∷ []
 
 abbrev pub handle_objects : List (Keyword × ObjectWord)
 handle_objects = (k.ThreadNodeOutputRecords, object_word.ThreadNodeOutputRecords) ∷ (k.GroupNodeOutputRecords, object_word.GroupNodeOutputRecords) ∷ []
@@ -59,7 +58,7 @@ object_word_of t = at_class (by_code (record_objects ++ (handle_objects ++ empty
 
 abbrev pub assign_operators : List (ℕ × AssignOperator)
 assign_operators = (mark_code "=", assign.Plain) ∷ (mark_code "*=", assign.Multiply) ∷ (mark_code "/=", assign.Divide) ∷ (mark_code "%=", assign.Remainder) ∷ (mark_code "+=", assign.Add) ∷ (mark_code "-=", assign.Subtract)
-  ∷ (mark_code "<<=", assign.ShiftLeft) ∷ (mark_code ">>=", assign.ShiftRight) ∷ (mark_code "&=", assign.BitAnd) ∷ (mark_code "^=", assign.BitXor) ∷ (mark_code "|=", assign.BitOr) ∷ []
+    ∷ (mark_code "<<=", assign.ShiftLeft) ∷ (mark_code ">>=", assign.ShiftRight) ∷ (mark_code "&=", assign.BitAnd) ∷ (mark_code "^=", assign.BitXor) ∷ (mark_code "|=", assign.BitOr) ∷ []
 
 abbrev pub assign_operator : Token → AssignOperator
 assign_operator t = at_class assign_operators assign.Plain (class t)
@@ -79,14 +78,14 @@ module _ {N : Type 0} {Of : N → Type 0} where
   -- an object, with these words besides the empty ones
   abbrev pub object : List (Keyword × ObjectWord) → Part Token N Of ObjectType
   object words = ((λ t r. record { place = t.place; word = object_word_of t; record_type = Some r }) <$> one_of (classes (by_code words)) <*> (mark "<" *> a_type <* mark ">"))
-    <|> ((λ t. record { place = t.place; word = object_word_of t; record_type = None }) <$> one_of (classes (by_code empty_objects)))
+      <|> ((λ t. record { place = t.place; word = object_word_of t; record_type = None }) <$> one_of (classes (by_code empty_objects)))
 
   abbrev pub size_of : Part Token N Of Expr → Part Token N Of (Option Expr)
   size_of const = optional (mark "[" *> const <* mark "]")
 
   abbrev pub attribute : Part Token N Of Expr → Part Token N Of Attribute
   attribute an_expr = (λ place name arguments. record { place = place; name = name; arguments = arguments }) <$> mark "[" <*> name
-    <*> ((mark "(" *> ((λ x xs. x ∷ xs) <$> an_expr <*> list (mark "," *> an_expr)) <* mark ")") <|> give []) <* mark "]"
+      <*> ((mark "(" *> ((λ x xs. x ∷ xs) <$> an_expr <*> list (mark "," *> an_expr)) <* mark ")") <|> give []) <* mark "]"
 
   module _ (value const : Part Token N Of Expr) where
     abbrev pub declarator : Part Token N Of Declarator
@@ -102,8 +101,8 @@ module _ {N : Type 0} {Of : N → Type 0} where
     -- what may follow the expression of a step
     abbrev pub step_rest : Part Token N Of (Expr → Step)
     step_rest = ((λ t value target. step.Assign target (assign_operator t) t.place value) <$> one_of (classes assign_operators) <*> value)
-      <|> ((λ t target. step.After target (step_operator_of t) t.place) <$> one_of (classes step_operators))
-      <|> give (λ value. step.Evaluate value)
+        <|> ((λ t target. step.After target (step_operator_of t) t.place) <$> one_of (classes step_operators))
+        <|> give (λ value. step.Evaluate value)
 
     abbrev pub a_step : Part Token N Of Step
     a_step = ((λ x rest. rest x) <$> value <*> step_rest) <|> ((λ t target. step.Before t.place (step_operator_of t) target) <$> one_of (classes step_operators) <*> value)
@@ -156,25 +155,25 @@ pub data Head : Type 0 where
 
 abbrev pub basic : Part Token Pieces Piece Stmt
 basic = ((λ place. s.Empty place) <$> mark ";")
-  <|> (((λ d. s.Declare d) <$> const_declaration (sub a_value) (sub a_const)) <* mark ";")
-  <|> (sub opening <* mark ";")
-  <|> (((λ of name value. s.Handle of name value) <$> object (record_objects ++ handle_objects) <*> name <*> (mark "=" *> sub a_value)) <* mark ";")
-  <|> (((λ place. s.Break place) <$> word k.Break) <* mark ";")
-  <|> (((λ place. s.Continue place) <$> word k.Continue) <* mark ";")
-  <|> (((λ place value. s.Return place value) <$> word k.Return <*> optional (sub a_value)) <* mark ";")
+    <|> (((λ d. s.Declare d) <$> const_declaration (sub a_value) (sub a_const)) <* mark ";")
+    <|> (sub opening <* mark ";")
+    <|> (((λ of name value. s.Handle of name value) <$> object (record_objects ++ handle_objects) <*> name <*> (mark "=" *> sub a_value)) <* mark ";")
+    <|> (((λ place. s.Break place) <$> word k.Break) <* mark ";")
+    <|> (((λ place. s.Continue place) <$> word k.Continue) <* mark ";")
+    <|> (((λ place value. s.Return place value) <$> word k.Return <*> optional (sub a_value)) <* mark ";")
 
 abbrev pub condition : Part Token Pieces Piece Expr
 condition = mark "(" *> sub a_value <* mark ")"
 
 abbrev pub header : Part Token Pieces Piece Header
 header = (λ start test steps. record { start = start; test = test; steps = steps })
-  <$> (mark "(" *> optional (((λ d. start.Declare d) <$> const_declaration (sub a_value) (sub a_const)) <|> sub starting))
-  <*> (mark ";" *> optional (sub a_value))
-  <*> (mark ";" *> optional (steps (sub a_value)) <* mark ")")
+    <$> (mark "(" *> optional (((λ d. start.Declare d) <$> const_declaration (sub a_value) (sub a_const)) <|> sub starting))
+    <*> (mark ";" *> optional (sub a_value))
+    <*> (mark ";" *> optional (steps (sub a_value)) <* mark ")")
 
 abbrev pub head : Part Token Pieces Piece Head
 head = (λ (attributes : List Attribute) (make : List Attribute → Head). make attributes) <$> list (attribute (sub an_argument))
-  <*> (((λ place test attributes. if_head attributes place test) <$> word k.If <*> condition)
+    <*> (((λ place test attributes. if_head attributes place test) <$> word k.If <*> condition)
     <|> ((λ place test attributes. while_head attributes place test) <$> word k.While <*> condition)
     <|> ((λ place header attributes. for_head attributes place header) <$> word k.For <*> header))
 
@@ -194,8 +193,8 @@ is_open = fold-Stmt Bool open_step
 -- an `else` belongs to the nearest `if`: the branch before it is not open
 abbrev pub finish : Rule Stmt → Depth → Head → Rule Stmt
 finish body d (if_head attributes place test) = Seq body (λ first.
-  (None_of (s.If attributes place test first None))
-  or (λ x i r. (is_open first ≡ false) × Seq (Leaf (of class (code k.Else ∷ [])) (λ t. t.place) d) (λ p. Seq body (λ other. None_of (s.If attributes place test first (Some other)))) x i r))
+    (None_of (s.If attributes place test first None))
+    or (λ x i r. (is_open first ≡ false) × Seq (Leaf (of class (code k.Else ∷ [])) (λ t. t.place) d) (λ p. Seq body (λ other. None_of (s.If attributes place test first (Some other)))) x i r))
 finish body d (while_head attributes place test) = Seq body (λ b. None_of (s.While attributes place test b))
 finish body d (for_head attributes place h) = Seq body (λ b. None_of (s.For attributes place h b))
 

@@ -1,11 +1,11 @@
 -- Expressions as they are read, from left to right with up to four tokens of preview.
-use Rattle.std.specs.Prelude.{◌≡◌, ℕ, zero, suc, Bool, true, false, List, [], ◌∷◌, ◌++◌}
+use Rattle.std.specs.Prelude.{ℕ, zero, suc, Bool, true, false, List, [], ◌∷◌, ◌++◌}
 use Rattle.wg_tree.specs.declared.token.Token.{Token}
 use Rattle.wg_tree.specs.declared.expr.Expr.{Expr}
 use Rattle.wg_grammar.specs.Reading.{Reader, too_deep, look}
 use Rattle.wg_grammar.specs.Parts.{Part, Edges, Readers, of, first, reads}
 use Rattle.wg_tree.specs.Symbols.{mark_code, NAME, ZERO, class}
-use Rattle.wg_tree.specs.GrammarExpr.{value_types, by_code, classes, operators, Kind, full, constant, argument, Nested, whole, operand, nested, Exprs, plain_operand, cast, zeros, Below, Lower, links, Sides, left, right, Side, sides, choice}
+use Rattle.wg_tree.specs.GrammarExpr.{value_types, by_code, classes, operators, Kind, full, constant, argument, Nested, whole, nested, Exprs, plain_operand, cast, zeros, Below, links, Sides, sides, choice}
 
 abbrev pub Reads : Type 0 → Type 0
 Reads X = Reader Token X

@@ -1,17 +1,16 @@
 -- Statements as they are read, from left to right with two tokens of preview.
-use Rattle.std.specs.Prelude.{◌≡◌, ℕ, zero, suc, Bool, true, false, if◌then◌else◌, List, [], ◌∷◌, ◌++◌, Some, None}
+use Rattle.std.specs.Prelude.{ℕ, zero, suc, Bool, true, List, [], ◌∷◌, ◌++◌, Some, None}
 use Rattle.wg_words.specs.declared.place.Place.{Place}
 use Rattle.wg_tree.specs.declared.token.Token.{Token}
 use Rattle.wg_tree.specs.declared.keyword.Keyword.TheVariants as k
-use Rattle.wg_tree.specs.declared.expr.Expr.{Expr}
 use Rattle.wg_tree.specs.declared.stmt.Stmt.{Stmt}
 use Rattle.wg_tree.specs.declared.stmt.Stmt.TheVariants as s
-use Rattle.wg_grammar.specs.Reading.{Reader, ◌>>=◌, pure, take_if, too_deep, by_next, look}
-use Rattle.wg_grammar.specs.Parts.{Part, Edges, Readers, of, first, stops, reads}
+use Rattle.wg_grammar.specs.Reading.{◌>>=◌, pure, take_if, too_deep, by_next, look}
+use Rattle.wg_grammar.specs.Parts.{Edges, Readers, of, first, stops, reads}
 use Rattle.wg_tree.specs.Symbols.{mark_code, NAME, code, class}
 use Rattle.wg_tree.specs.GrammarExpr.{full, constant, argument}
 use Rattle.wg_tree.specs.ReadsExpr.{Reads, starts, expr_stops, expr_read_at}
-use Rattle.wg_tree.specs.GrammarStmt.{type_classes, Values, value, const, Value, declared_stmt, stepped_stmt, declared_start, stepped_start, Pieces, a_value, a_const, an_argument, opening, starting, Piece, Head, if_head, while_head, for_head, basic, head, Inside, statement, Insides, braces, block_of}
+use Rattle.wg_tree.specs.GrammarStmt.{type_classes, Values, value, const, Value, declared_stmt, stepped_stmt, declared_start, stepped_start, Pieces, a_value, a_const, an_argument, opening, starting, Piece, Head, if_head, while_head, for_head, basic, head, Inside, braces, block_of}
 
 abbrev pub values_of {ℓ} : {A : Type ℓ} → A → A → Values → A
 values_of v c value = v
@@ -84,7 +83,7 @@ module _ (room : ℕ) where
 
   abbrev pub read_finish : Reads Stmt → Head → Reads Stmt
   read_finish body (if_head attributes place test) = body >>= λ one.
-    by_next (of class (code k.Else ∷ [])) (take_if (of class (code k.Else ∷ [])) (λ t. t.place) >>= λ p. body >>= λ other. pure (s.If attributes place test one (Some other))) (pure (s.If attributes place test one None))
+      by_next (of class (code k.Else ∷ [])) (take_if (of class (code k.Else ∷ [])) (λ t. t.place) >>= λ p. body >>= λ other. pure (s.If attributes place test one (Some other))) (pure (s.If attributes place test one None))
   read_finish body (while_head attributes place test) = body >>= λ b. pure (s.While attributes place test b)
   read_finish body (for_head attributes place header) = body >>= λ b. pure (s.For attributes place header b)
 

@@ -1,5 +1,5 @@
 -- Which terminal of the grammar a token is, as a number: the code of a mark, and numbers from 2^24 on for the rest. Own.
-use Rattle.std.specs.Prelude.{ℕ, zero, suc, ◌+◌, ◌-◌, ◌*◌, ◌==◌, Bool, true, false, if◌then◌else◌, List, [], ◌∷◌, map, fold, codes, Option, Some, None}
+use Rattle.std.specs.Prelude.{ℕ, ◌+◌, ◌*◌, ◌==◌, if◌then◌else◌, List, [], ◌∷◌, map, fold, codes, Option, Some, None}
 use Prim.Native.String.{String}
 use Rattle.std.specs.Str.{bytes_eq}
 use Rattle.wg_tree.specs.declared.keyword.Keyword.{Keyword}

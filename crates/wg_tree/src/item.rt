@@ -15,8 +15,15 @@ pub struct Field {
 /// What a buffer holds: bytes, or elements of a type.
 #[derive(Drop)]
 pub enum BufferType {
-    Raw { place: Place, writable: bool },
-    Structured { place: Place, writable: bool, of: TypeName },
+    Raw {
+        place: Place,
+        writable: bool,
+    },
+    Structured {
+        place: Place,
+        writable: bool,
+        of: TypeName,
+    },
 }
 
 #[derive(Clone, Copy, Debug, PartialEq, Eq)]

@@ -89,7 +89,10 @@ pub const KEYWORDS: [(&[u8], Keyword); 48] = [
     (b"uint3", Keyword::Uint3),
     (b"uint4", Keyword::Uint4),
     (b"DispatchNodeInputRecord", Keyword::DispatchNodeInputRecord),
-    (b"RWDispatchNodeInputRecord", Keyword::RwDispatchNodeInputRecord),
+    (
+        b"RWDispatchNodeInputRecord",
+        Keyword::RwDispatchNodeInputRecord,
+    ),
     (b"GroupNodeInputRecords", Keyword::GroupNodeInputRecords),
     (b"RWGroupNodeInputRecords", Keyword::RwGroupNodeInputRecords),
     (b"ThreadNodeInputRecord", Keyword::ThreadNodeInputRecord),

@@ -4,6 +4,7 @@
 mod expr;
 mod item;
 mod keyword;
+mod law;
 mod stmt;
 mod token;
 
@@ -14,6 +15,7 @@ pub use item::{
     BufferType, Directed, Direction, Field, Item, Parameter, ParameterType, ResultType, Source,
 };
 pub use keyword::{KEYWORDS, Keyword};
+pub use law::spells_one_tree;
 pub use stmt::{
     AssignOperator, Attribute, Declaration, Declarator, Header, ObjectType, ObjectWord, Start,
     Step, StepOperator, Steps, Stmt,

@@ -1,0 +1,10 @@
+pub mod Examples
+pub mod ExprDecides
+pub mod ExprPaths
+pub mod ExprUnary
+pub mod ExprExact
+pub mod StmtDecides
+pub mod StmtOpening
+pub mod StmtExact
+pub mod ItemDecides
+pub mod TextExact

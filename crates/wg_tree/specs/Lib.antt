@@ -2,3 +2,11 @@ pub mod Characters
 pub mod Cut
 pub mod LexicalRules
 pub mod Spelling
+pub mod Symbols
+pub mod Depths
+pub mod GrammarExpr
+pub mod ReadsExpr
+pub mod GrammarStmt
+pub mod ReadsStmt
+pub mod GrammarItem
+pub mod ReadsItem

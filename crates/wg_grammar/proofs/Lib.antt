@@ -1,0 +1,11 @@
+pub mod Sets
+pub mod Kept
+pub mod Fine
+pub mod Full
+pub mod PartKept
+pub mod PartFull
+pub mod PartFine
+pub mod Look
+pub mod PartBites
+pub mod Inverse
+pub mod Exact

@@ -1,0 +1,5 @@
+pub mod Spans
+pub mod Reading
+pub mod Depths
+pub mod Parts
+pub mod Takes

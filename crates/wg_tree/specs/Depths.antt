@@ -1,0 +1,18 @@
+-- How deep a token stands. Own.
+use Rattle.std.specs.Prelude.{ℕ, suc, ◌≤◌}
+
+pub record Depth : Type 0 where
+  -- the blocks and the bodies of `if`, `else`, `while` and `for` that hold it; a block that is such a body counts once
+  pub statement : ℕ
+  -- the pairs of brackets inside expressions that hold it, and the prefix operators, casts and `?` whose operand to the right holds it
+  pub expression : ℕ
+
+abbrev pub deeper : Depth → Depth
+deeper d = record { statement = d.statement; expression = suc d.expression }
+
+abbrev pub in_statement : Depth → Depth
+in_statement d = record { statement = suc d.statement; expression = d.expression }
+
+-- neither depth is above the limit
+abbrev pub Within : ℕ → Depth → Type 0
+Within limit d = (d.statement ≤ limit) × (d.expression ≤ limit)

@@ -3,6 +3,7 @@ pub mod ExprDecides
 pub mod ExprPaths
 pub mod ExprUnary
 pub mod ExprExact
+pub mod ExprFine
 pub mod StmtDecides
 pub mod StmtOpening
 pub mod StmtExact

@@ -1,0 +1,5 @@
+mod Greatest
+mod Small
+mod Sums
+mod Good
+mod Mosts

@@ -1,0 +1,11 @@
+//! How many slots a run needs at each unit, so that it never stands.
+#![tactic(auto)]
+
+mod answer;
+mod laws;
+mod needs;
+mod planning;
+
+pub use answer::{Plan, PlanFault};
+pub use laws::good_shapes_are_small;
+pub use planning::plan;

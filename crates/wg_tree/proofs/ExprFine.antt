@@ -102,7 +102,7 @@ module _ (ok : Type 0) (limit : ℕ) where
           let b = both_true (covered (stops (level_edges kind j) (links (suc j))) _) (levels_decide kind j) a.1 in
           let below = fine_level j b.1 in
           part_fine ok class (level_edges kind j) example (Within limit) (record { room = (inner_at kind m d).room; here = (inner_at kind m d).here; below = (inner_at kind m d).below; rule = λ n. level kind (inner_at kind m d) j }) (record { room = (inside_at kind n).room; read = λ k. read_level kind (inside_at kind n) j })
-            near.roomy near.grows near.here near.shallow near.deep (λ k. below) (links (suc j)) a.0
+          near.roomy near.grows near.here near.shallow near.deep (λ k. below) (links (suc j)) a.0
 
       fine_sides : (k : Sides) → f.Fine ok (Within limit) (sides (read_level kind (inside_at kind n) 10) ((inside_at kind n).read whole) k) (sides (level kind (inner_at kind m d) 10) ((inner_at kind m d).rule whole) k)
       fine_sides left = fine_level 10 (all_levels kind)

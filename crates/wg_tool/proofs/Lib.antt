@@ -1,0 +1,12 @@
+pub mod AnswerLemmas
+pub mod CompleteLemmas
+pub mod FileLemmas
+pub mod FormLemmas
+pub mod GoodShapes
+pub mod PartLemmas
+pub mod PrintLemmas
+pub mod RunLemmas
+pub mod ScriptLemmas
+pub mod ShapeLemmas
+pub mod StageLemmas
+pub mod WriteLemmas

@@ -1,0 +1,11 @@
+pub mod Answers
+pub mod FirstForm
+pub mod Headline
+pub mod Parts
+pub mod Report
+pub mod Running
+pub mod Script
+pub mod SenderLaws
+pub mod Sending
+pub mod Stages
+pub mod Wiring

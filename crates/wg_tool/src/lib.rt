@@ -1,0 +1,27 @@
+//! The top calls: from the words of a command line to a status.
+#![tactic(auto)]
+
+mod answer;
+mod bodies;
+mod call;
+mod graph;
+mod limits;
+mod pair;
+mod parts;
+mod print;
+mod run;
+mod runs;
+mod say;
+mod script;
+mod senders;
+mod sending;
+mod stages;
+mod wiring;
+mod write;
+
+pub use answer::{Answer, Input};
+pub use call::{Status, steady};
+pub use pair::{Pair, Pairs, Sends};
+
+#[cfg(test)]
+mod tests;

@@ -7,5 +7,6 @@ pub mod ExprFine
 pub mod StmtDecides
 pub mod StmtOpening
 pub mod StmtExact
+pub mod StmtFine
 pub mod ItemDecides
 pub mod TextExact

@@ -33,16 +33,16 @@ use Rattle.wg_tree.proofs.StmtOpening.{exact_opening, exact_starting, opening_mo
 
 -- ---- which statements are open
 
-if_else : (a : List Attribute) (p : Place) (t : Expr) (x y : Stmt) → is_open (s.If a p t x (Some y)) ≡ is_open y
+pub if_else : (a : List Attribute) (p : Place) (t : Expr) (x y : Stmt) → is_open (s.If a p t x (Some y)) ≡ is_open y
 if_else a p t x y = ap is_open (sym (s.rolls-If a p t x (Some y))) ∙ fold-roll-Stmt Bool open_step (Stmt-F.If a p t x (Some y))
 
-if_alone : (a : List Attribute) (p : Place) (t : Expr) (x : Stmt) → is_open (s.If a p t x None) ≡ true
+pub if_alone : (a : List Attribute) (p : Place) (t : Expr) (x : Stmt) → is_open (s.If a p t x None) ≡ true
 if_alone a p t x = ap is_open (sym (s.rolls-If a p t x None)) ∙ fold-roll-Stmt Bool open_step (Stmt-F.If a p t x None)
 
-while_body : (a : List Attribute) (p : Place) (t : Expr) (x : Stmt) → is_open (s.While a p t x) ≡ is_open x
+pub while_body : (a : List Attribute) (p : Place) (t : Expr) (x : Stmt) → is_open (s.While a p t x) ≡ is_open x
 while_body a p t x = ap is_open (sym (s.rolls-While a p t x)) ∙ fold-roll-Stmt Bool open_step (Stmt-F.While a p t x)
 
-for_body : (a : List Attribute) (p : Place) (h : Header) (x : Stmt) → is_open (s.For a p h x) ≡ is_open x
+pub for_body : (a : List Attribute) (p : Place) (h : Header) (x : Stmt) → is_open (s.For a p h x) ≡ is_open x
 for_body a p h x = ap is_open (sym (s.rolls-For a p h x)) ∙ fold-roll-Stmt Bool open_step (Stmt-F.For a p h x)
 
 abbrev elses : List ℕ

@@ -41,7 +41,7 @@ module _ (room : ℕ) (p : Reads Stmt) (greedy : (ts : List Token) → Greedy (p
   taken_greedy a place t x (Deep b) = tt
 
   first_greedy : (a : List Attribute) (place : Place) (t : Expr) (x : Stmt) (m : List Token) (v : Bool) → sees (of class elses) m ≡ v
-    → Greedy (if v then (take_if (of class elses) (λ t. t.place) >>= λ _. p >>= λ y. pure (s.If a place t x (Some y))) m else Got (s.If a place t x None) m)
+      → Greedy (if v then (take_if (of class elses) (λ t. t.place) >>= λ _. p >>= λ y. pure (s.If a place t x (Some y))) m else Got (s.If a place t x None) m)
   first_greedy a place t x m true e = taken_greedy a place t x (take_if (of class elses) (λ t. t.place) m)
   first_greedy a place t x m false e = λ q. e
 
@@ -88,9 +88,11 @@ module _ (room : ℕ) (p : Reads Stmt) (greedy : (ts : List Token) → Greedy (p
       where
         alone : f.Fine ok (Within limit) (pure (s.If a place t x None)) (Rest a place t x)
         alone = f.fine_as ok (Within limit) {P = None_of (s.If a place t x None)} (λ y i r. inl) (f.fine_pure ok (Within limit) (s.If a place t x None))
+
         both : is_open x ≡ false → f.Fine ok (Within limit) (take_if (of class elses) (λ t. t.place) >>= λ _. p >>= λ y. pure (s.If a place t x (Some y))) (Rest a place t x)
         both e = f.fine_as ok (Within limit) {P = Seq (Leaf (of class elses) (λ t. t.place) d) (λ _. Seq P (λ z. None_of (s.If a place t x (Some z))))} (λ y i r h. inr (e, h))
             (f.fine_bind ok (Within limit) (f.fine_take ok (Within limit) (of class elses) (λ t. t.place) d (example (code k.Else)) refl within) (λ _. f.fine_bind ok (Within limit) {Q = λ z. None_of (s.If a place t x (Some z))} fine (λ z. f.fine_pure ok (Within limit) (s.If a place t x (Some z)))))
+
         go : (v : Bool) → is_open x ≡ v → f.Fine ok (Within limit) (λ ts. if v then Got (s.If a place t x None) ts else more a place t x ts) (Rest a place t x)
         go true e = alone
         go false e = f.fine_if ok (Within limit) (sees (of class elses)) (both e) alone

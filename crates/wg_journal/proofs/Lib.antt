@@ -1,1 +1,4 @@
 pub mod FieldLemmas
+pub mod NumberLemmas
+pub mod UnitLemmas
+pub mod NameLemmas

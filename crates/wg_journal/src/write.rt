@@ -3,6 +3,7 @@ ghost use Rattle.std.specs.Fmt.{decimal};
 ghost use Rattle.std.specs.List.{flat_map, range_with_len};
 ghost use Rattle.wg_words.specs.Each.{Each};
 ghost use Rattle.wg_machine.specs.declared.launch.Entry.{Entry as Launched};
+ghost use Rattle.wg_journal.specs.Names.{index_at};
 ghost use Rattle.wg_journal.specs.Texts.{spaced, all_spaced, unit_at, launch_line, done_line, buffer_line, turns_line, launches_line, stop_line, perhaps, tail_text, report_text};
 
 use crate::{BufferLine, Done, Journal, Stop, Tail};
@@ -53,7 +54,8 @@ fn push_outs(alloc: Global, line: &mut Vec<u8>, first: u64, count: u32) -> Resul
 }
 
 pub(crate) fn push_unit(alloc: Global, line: &mut Vec<u8>, shape: &Shape, unit: u32) -> Result<(), AllocError>
-    ensures { OnOk result (line.new.items ≡ line.old.items ++ unit_at shape.now unit) }
+    ensures text { OnOk result (line.new.items ≡ line.old.items ++ unit_at shape.now unit) }
+    ensures index { OnOk result (index_at shape.now unit < 2 ^ 64) }
 {
     let Some(node) = shape.units.get(unit as usize) else {
         return Ok(());

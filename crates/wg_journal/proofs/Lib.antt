@@ -1,4 +1,7 @@
 pub mod FieldLemmas
+pub mod JoinLemmas
+pub mod LineForms
+pub mod LineSound
+pub mod NameLemmas
 pub mod NumberLemmas
 pub mod UnitLemmas
-pub mod NameLemmas

@@ -1,5 +1,6 @@
 pub mod FieldLemmas
 pub mod JoinLemmas
+pub mod LineAgain
 pub mod LineForms
 pub mod LineSound
 pub mod NameLemmas

@@ -5,4 +5,5 @@ pub mod LineForms
 pub mod LineSound
 pub mod NameLemmas
 pub mod NumberLemmas
+pub mod StepLemmas
 pub mod UnitLemmas

@@ -1,15 +1,15 @@
 -- A line is its fields, each but the first after a space.
-use Rattle.std.proofs.Common.{◌≡◌, ◌≢◌, ℕ, ◌+◌, ◌≤◌, Bool, true, false, cond, List, [], ◌∷◌, ◌++◌, map, Option, Some, None, refl, sym, ap, ◌∙◌, append_assoc, arith}
+use Rattle.std.proofs.Common.{◌≡◌, ◌≢◌, ℕ, ◌≤◌, Bool, true, false, cond, List, [], ◌∷◌, ◌++◌, Option, Some, None, refl, sym, ap, ◌∙◌, append_assoc, arith}
 use Rattle.std.specs.Prelude.{◌==◌}
 use Rattle.std.specs.Option.{option_map}
-use Rattle.std.specs.List.{slice_split, onto_first}
+use Rattle.std.specs.List.{onto_first}
 use Rattle.std.specs.Fmt.{decimal}
 use Rattle.std.proofs.lemmas.Bool.{eqb-true}
 use Rattle.std.proofs.lemmas.Bool.Decides.{nat_tests}
 use Rattle.std.proofs.lemmas.List.{append-nil}
 use Rattle.wg_words.specs.Each.{Each}
 use Rattle.wg_journal.specs.Reading.{cut, fields_of}
-use Rattle.wg_journal.specs.Texts.{spaced, all_spaced}
+use Rattle.wg_journal.specs.Texts.{all_spaced}
 use Rattle.wg_journal.proofs.FieldLemmas.{fields_some, some_is, with_front, front_none}
 use Rattle.wg_journal.proofs.NumberLemmas.{Visible}
 
@@ -73,7 +73,7 @@ cut_spread : (fields : List (List ℕ)) (more : List ℕ) → Each Visible field
 cut_spread [] more vs = refl
 cut_spread (f ∷ fields) more vs =
     let t : cut 10 ((f ++ spread fields) ++ 10 ∷ more) ≡ Some (f ++ spread fields, more) =
-      ap (cut 10) (append_assoc f (spread fields) (10 ∷ more)) ∙ (cut_then f (spread fields ++ 10 ∷ more) vs.0 ∙ ap (with_front f) (cut_spread fields more vs.1)) in
+    ap (cut 10) (append_assoc f (spread fields) (10 ∷ more)) ∙ (cut_then f (spread fields ++ 10 ∷ more) vs.0 ∙ ap (with_front f) (cut_spread fields more vs.1)) in
     rw t refl
 
 -- a line of such fields is cut at its line feed

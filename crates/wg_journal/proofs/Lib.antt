@@ -5,5 +5,6 @@ pub mod LineForms
 pub mod LineSound
 pub mod NameLemmas
 pub mod NumberLemmas
+pub mod RunLemmas
 pub mod StepLemmas
 pub mod UnitLemmas

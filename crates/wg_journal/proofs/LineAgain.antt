@@ -1,6 +1,6 @@
 -- The fields of a line of a report are read as that line, and none of their bytes is a space or a line feed.
-use Rattle.std.proofs.Common.{◌≡◌, ◌≢◌, ℕ, zero, suc, ◌+◌, ◌^◌, ◌<◌, ◌≤◌, Bool, true, false, cond, List, [], ◌∷◌, ◌++◌, length, Option, Some, None, refl, sym, ap, subst, ◌∙◌, arith, lit≤}
-use Rattle.std.specs.Prelude.{◌==◌, ◌&&◌, nat_lt, IsTrue, IfSome, codes, if◌then◌else◌}
+use Rattle.std.proofs.Common.{◌≡◌, ◌≢◌, ℕ, zero, suc, ◌+◌, ◌^◌, ◌<◌, ◌≤◌, true, false, cond, List, [], ◌∷◌, ◌++◌, length, Option, Some, None, refl, sym, ap, ◌∙◌, arith, lit≤}
+use Rattle.std.specs.Prelude.{◌==◌, ◌&&◌, nat_lt, IsTrue, codes}
 use Rattle.std.specs.Option.{option_map}
 use Rattle.std.specs.Fmt.{decimal}
 use Rattle.std.specs.List.{range_with_len}
@@ -16,17 +16,16 @@ use Rattle.wg_journal.specs.declared.journal.Done.{Done}
 use Rattle.wg_journal.specs.declared.journal.BufferLine.{BufferLine}
 use Rattle.wg_journal.specs.declared.journal.Stop.{Stop}
 use Rattle.wg_journal.specs.declared.journal.Stop.TheVariants.{Turns, Launches}
-use Rattle.wg_journal.specs.declared.lines.Taken.{Taken}
 use Rattle.wg_journal.specs.declared.lines.Line.{Line}
 use Rattle.wg_journal.specs.declared.lines.Line.TheVariants as lines
 use Rattle.wg_journal.specs.Names.{IsNaming}
-use Rattle.wg_journal.specs.Reading.{◌>>=◌, guard, number_of, number_at, if_word, word_at, keyword_at, named_at, name_at, unit_named_at, end_at, onto_numbers, numbers_at, onto_words, words_at, outs_from, outs_at, is_some_rising, taken_at, launch_at, done_at, buffer_at, turns_at, launches_at, stop_at, line_at}
-use Rattle.wg_journal.specs.Report.{is_rising, IsTaken, IsGoodEntry, IsGoodDone, IsGoodBuffer, IsGoodStop}
+use Rattle.wg_journal.specs.Reading.{◌>>=◌, number_of, number_at, if_word, word_at, keyword_at, named_at, name_at, unit_named_at, onto_numbers, numbers_at, onto_words, words_at, outs_from, outs_at, is_some_rising, taken_at, launch_at, done_at, buffer_at, turns_at, launches_at, line_at}
+use Rattle.wg_journal.specs.Report.{is_rising, IsTaken, IsGoodEntry, IsGoodDone, IsGoodBuffer}
 use Rattle.wg_journal.specs.Texts.{unit_at}
 use Rattle.wg_journal.proofs.NumberLemmas.{number_again, Visible, visible_decimal}
 use Rattle.wg_journal.proofs.UnitLemmas.{visible_unit, visible_named, identifier_named}
 use Rattle.wg_journal.proofs.JoinLemmas.{decimals}
-use Rattle.wg_journal.proofs.LineForms.{taken_fields, launch_fields, done_fields, buffer_fields, stop_fields, line_fields, IsGoodLine}
+use Rattle.wg_journal.proofs.LineForms.{taken_fields, line_fields, IsGoodLine}
 
 -- ---- single fields
 
@@ -105,11 +104,14 @@ taken_again shape names is unit (x ∷ y ∷ z ∷ []) inputs rest good e =
     let fields = decimals inputs ++ rest in
     let ns = numbers_again inputs rest good.inputs_fit e in
     let rise = some_rising inputs good.some good.rising in
-    rw (unit_again shape names is unit (codes "g" ∷ decimal x ∷ decimal y ∷ decimal z ∷ codes "in" ∷ fields) good.unit_there,
-        word_at_again x (decimal y ∷ decimal z ∷ codes "in" ∷ fields) good.group_fits.0,
-        word_at_again y (decimal z ∷ codes "in" ∷ fields) good.group_fits.1.0,
-        word_at_again z (codes "in" ∷ fields) good.group_fits.1.1.0,
-        ns, rise) refl
+    rw (
+      unit_again shape names is unit (codes "g" ∷ decimal x ∷ decimal y ∷ decimal z ∷ codes "in" ∷ fields) good.unit_there,
+      word_at_again x (decimal y ∷ decimal z ∷ codes "in" ∷ fields) good.group_fits.0,
+      word_at_again y (decimal z ∷ codes "in" ∷ fields) good.group_fits.1.0,
+      word_at_again z (codes "in" ∷ fields) good.group_fits.1.1.0,
+      ns,
+      rise,
+    ) refl
 
 launch_again : (shape : Shape) (names : List ℕ → Option ℕ) → IsNaming shape names → (k : ℕ) (e : Entry) → k < 2 ^ 64 → IsGoodEntry shape e
     → launch_at names k (decimal k) (taken_fields shape e.unit e.at e.inputs (codes "out" ∷ decimals (range_with_len e.first_out e.outs))) ≡ Some e
@@ -187,10 +189,14 @@ range_fits first zero fits = tt
 range_fits first (suc count) fits = (omega arith, range_fits (first + 1) count (omega arith))
 
 visible_taken : (shape : Shape) (good : IsGoodShape shape) (names : List ℕ → Option ℕ) → IsNaming shape names → (unit : ℕ) (group inputs : List ℕ) (rest : List (List ℕ)) → IsTaken shape unit group inputs → Each Visible rest → Each Visible (taken_fields shape unit group inputs rest)
-visible_taken shape good names is unit group inputs rest taken h =
-    (visible_unit shape good unit taken.unit_there (is.index unit taken.unit_there), ((lit≤ tt, tt),
-     visible_then (decimals group) (codes "in" ∷ (decimals inputs ++ rest)) (visible_decimals group (wider group taken.group_fits))
-       ((lit≤ tt, (lit≤ tt, tt)), visible_then (decimals inputs) rest (visible_decimals inputs taken.inputs_fit) h)))
+visible_taken shape good names is unit group inputs rest taken h = (
+  visible_unit shape good unit taken.unit_there (is.index unit taken.unit_there),
+  (
+    (lit≤ tt, tt),
+    visible_then (decimals group) (codes "in" ∷ (decimals inputs ++ rest)) (visible_decimals group (wider group taken.group_fits))
+        ((lit≤ tt, (lit≤ tt, tt)), visible_then (decimals inputs) rest (visible_decimals inputs taken.inputs_fit) h),
+  ),
+)
 
 pub visible_line : (shape : Shape) (good : IsGoodShape shape) (names : List ℕ → Option ℕ) → IsNaming shape names → (k : ℕ) (l : Line) → k < 2 ^ 64 → IsGoodLine shape l → Each Visible (line_fields shape k l)
 visible_line shape good names is k (lines.Launch e) fits g =

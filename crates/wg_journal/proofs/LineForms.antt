@@ -1,12 +1,10 @@
 -- Each line of a report by its fields.
-use Rattle.std.proofs.Common.{◌≡◌, ℕ, ◌+◌, ◌^◌, ◌<◌, ◌≤◌, List, [], ◌∷◌, ◌++◌, map, refl, sym, ap, subst, ◌∙◌, append_assoc, arith}
+use Rattle.std.proofs.Common.{◌≡◌, ℕ, List, [], ◌∷◌, ◌++◌, sym, ap, ◌∙◌, append_assoc}
 use Rattle.std.specs.Prelude.{codes}
 use Rattle.std.specs.Fmt.{decimal}
 use Rattle.std.specs.List.{range_with_len}
-use Rattle.wg_words.specs.Each.{Each}
 use Rattle.wg_machine.specs.declared.shape.Shape.{Shape}
 use Rattle.wg_machine.specs.declared.launch.Entry.{Entry}
-use Rattle.wg_machine.specs.GoodShape.{IsGoodShape}
 use Rattle.wg_journal.specs.declared.journal.Done.{Done}
 use Rattle.wg_journal.specs.declared.journal.BufferLine.{BufferLine}
 use Rattle.wg_journal.specs.declared.journal.Stop.{Stop}
@@ -14,7 +12,7 @@ use Rattle.wg_journal.specs.declared.journal.Stop.TheVariants.{Turns, Launches}
 use Rattle.wg_journal.specs.declared.lines.Line.{Line}
 use Rattle.wg_journal.specs.declared.lines.Line.TheVariants as lines
 use Rattle.wg_journal.specs.Report.{IsGoodEntry, IsGoodDone, IsGoodBuffer, IsGoodStop}
-use Rattle.wg_journal.specs.Texts.{spaced, all_spaced, unit_at, launch_line, done_line, buffer_line, turns_line, launches_line, stop_line}
+use Rattle.wg_journal.specs.Texts.{all_spaced, unit_at, launch_line, done_line, buffer_line, stop_line}
 use Rattle.wg_journal.proofs.JoinLemmas.{spread, joined, decimals, spread_append, spread_decimals}
 
 abbrev pub taken_fields : Shape → ℕ → List ℕ → List ℕ → List (List ℕ) → List (List ℕ)
@@ -57,7 +55,7 @@ taken_text : (shape : Shape) (unit : ℕ) (group inputs : List ℕ) (rest : List
 taken_text shape unit group inputs rest =
     let inner : spread (decimals inputs ++ rest) ≡ all_spaced inputs ++ spread rest = spread_append (decimals inputs) rest ∙ ap (λ (t : List ℕ). t ++ spread rest) (spread_decimals inputs) in
     let outer : spread (decimals group ++ codes "in" ∷ (decimals inputs ++ rest)) ≡ all_spaced group ++ (codes " in" ++ (all_spaced inputs ++ spread rest)) =
-      spread_append (decimals group) (codes "in" ∷ (decimals inputs ++ rest)) ∙ (ap (λ (t : List ℕ). t ++ (codes " in" ++ spread (decimals inputs ++ rest))) (spread_decimals group) ∙ ap (λ (t : List ℕ). all_spaced group ++ (codes " in" ++ t)) inner) in
+    spread_append (decimals group) (codes "in" ∷ (decimals inputs ++ rest)) ∙ (ap (λ (t : List ℕ). t ++ (codes " in" ++ spread (decimals inputs ++ rest))) (spread_decimals group) ∙ ap (λ (t : List ℕ). all_spaced group ++ (codes " in" ++ t)) inner) in
     ap (λ (t : List ℕ). 32 ∷ (unit_at shape unit ++ (codes " g" ++ t))) outer
 
 buffer_text : (name count words : List ℕ) → codes "buffer " ++ name ++ (32 ∷ count) ++ words ++ codes "\n" ≡ (codes "buffer" ++ (32 ∷ (name ++ (32 ∷ (count ++ words))))) ++ 10 ∷ []

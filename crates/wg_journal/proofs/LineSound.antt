@@ -1,6 +1,6 @@
 -- What is read of a line is a line of a report, and its fields are those of that line.
-use Rattle.std.proofs.Common.{◌≡◌, ◌≢◌, ℕ, zero, suc, ◌+◌, ◌^◌, ◌<◌, ◌≤◌, Bool, true, false, cond, List, [], ◌∷◌, ◌++◌, length, Option, Some, None, refl, sym, ap, subst, ◌∙◌, arith}
-use Rattle.std.specs.Prelude.{◌==◌, ◌&&◌, nat_lt, IsTrue, codes, if◌then◌else◌}
+use Rattle.std.proofs.Common.{◌≡◌, ◌≢◌, ℕ, suc, ◌+◌, ◌^◌, ◌<◌, ◌≤◌, Bool, true, false, cond, List, [], ◌∷◌, ◌++◌, length, Option, Some, None, refl, sym, ap, subst, ◌∙◌, arith}
+use Rattle.std.specs.Prelude.{◌==◌, ◌&&◌, nat_lt, IsTrue, codes}
 use Rattle.std.specs.Option.{option_map}
 use Rattle.std.specs.Fmt.{decimal}
 use Rattle.std.specs.List.{range_with_len}
@@ -108,7 +108,7 @@ numbers_sound [] = (refl, tt)
 numbers_sound (f ∷ fields) = choice (number_of f) refl (numbers_sound fields)
   where
     choice : (o : Option ℕ) → number_of f ≡ o → (fields ≡ decimals (numbers_at fields).0 ++ (numbers_at fields).1) × Each (λ n. n < 2 ^ 64) (numbers_at fields).0
-      → (f ∷ fields ≡ decimals (onto_numbers o (f ∷ fields) (numbers_at fields)).0 ++ (onto_numbers o (f ∷ fields) (numbers_at fields)).1) × Each (λ n. n < 2 ^ 64) (onto_numbers o (f ∷ fields) (numbers_at fields)).0
+        → (f ∷ fields ≡ decimals (onto_numbers o (f ∷ fields) (numbers_at fields)).0 ++ (onto_numbers o (f ∷ fields) (numbers_at fields)).1) × Each (λ n. n < 2 ^ 64) (onto_numbers o (f ∷ fields) (numbers_at fields)).0
     choice None g ih = (refl, tt)
     choice (Some n) g ih =
         let t = number_takes f n g in
@@ -149,14 +149,16 @@ outs_from_sound (f ∷ fields) first count r few fits e =
     let same = d.0 in
     let ih = outs_from_sound fields first (count + 1) r d.1 (omega arith) s.1 in
     let g = ih.1 in
-    let step : first + (count + 1) ≡ (first + count) + 1 = omega arith in
-    (ih.0, record {
-      more = suc g.more;
-      count_is = omega (arith, g.count_is);
-      is = ap (λ (h : List ℕ). h ∷ fields) (t.0 ∙ ap decimal same) ∙ ap (λ (h : List (List ℕ)). decimal (first + count) ∷ h) (g.is ∙ ap (λ (k : ℕ). decimals (range_with_len k g.more)) step);
-      few = g.few;
-      fits = g.fits;
-    })
+    let step : first + (count + 1) ≡ (first + count) + 1 = omega arith in (
+      ih.0,
+      record {
+        more = suc g.more;
+        count_is = omega (arith, g.count_is);
+        is = ap (λ (h : List ℕ). h ∷ fields) (t.0 ∙ ap decimal same) ∙ ap (λ (h : List (List ℕ)). decimal (first + count) ∷ h) (g.is ∙ ap (λ (k : ℕ). decimals (range_with_len k g.more)) step);
+        few = g.few;
+        fits = g.fits;
+      },
+    )
   where
     tested : (c : Bool) → cond c (outs_from first (count + 1) fields) None ≡ Some r → (c ≡ true) × (outs_from first (count + 1) fields ≡ Some r)
     tested true h = (refl, h)
@@ -220,10 +222,10 @@ taken_sound shape names is fields r e =
     let sn = numbers_sound i.0.1 in
     let rise = rising_some ns.0 t.0 in
     subst (λ (q : Taken × List (List ℕ)). Takes shape fields q.0 q.1) t.1
-      (record {
-        is = su.0 ∙ ap (λ (a : List (List ℕ)). unit_at shape u.0.0 ∷ a) (sg ∙ ap (λ (a : List (List ℕ)). codes "g" ∷ a) (sx.0 ∙ ap (λ (a : List (List ℕ)). decimal x.0.0 ∷ a) (sy.0 ∙ ap (λ (a : List (List ℕ)). decimal y.0.0 ∷ a) (sz.0 ∙ ap (λ (a : List (List ℕ)). decimal z.0.0 ∷ a) (si ∙ ap (λ (a : List (List ℕ)). codes "in" ∷ a) sn.0)))));
-        good = record { unit_there = su.1; three = refl; group_fits = (sx.1, (sy.1, (sz.1, tt))); some = rise.0; rising = rise.1; inputs_fit = sn.1 };
-      })
+    (record {
+      is = su.0 ∙ ap (λ (a : List (List ℕ)). unit_at shape u.0.0 ∷ a) (sg ∙ ap (λ (a : List (List ℕ)). codes "g" ∷ a) (sx.0 ∙ ap (λ (a : List (List ℕ)). decimal x.0.0 ∷ a) (sy.0 ∙ ap (λ (a : List (List ℕ)). decimal y.0.0 ∷ a) (sz.0 ∙ ap (λ (a : List (List ℕ)). decimal z.0.0 ∷ a) (si ∙ ap (λ (a : List (List ℕ)). codes "in" ∷ a) sn.0)))));
+      good = record { unit_there = su.1; three = refl; group_fits = (sx.1, (sy.1, (sz.1, tt))); some = rise.0; rising = rise.1; inputs_fit = sn.1 };
+    })
 
 pub launch_sound : (shape : Shape) (names : List ℕ → Option ℕ) → IsNaming shape names → (place : ℕ) (first : List ℕ) (fields : List (List ℕ)) (e : Entry) → launch_at names place first fields ≡ Some e → (first ∷ fields ≡ launch_fields shape place e) × IsGoodEntry shape e
 unfolding launch_at
@@ -239,9 +241,10 @@ launch_sound shape names is place first fields e h =
     let st = taken_sound shape names is fields t.0 t.1 in
     let so = keyword_sound (codes "out") t.0.1 o.0 o.1 in
     let ss = outs_sound o.0.1 s.0 s.1 in
-    subst (λ (q : Entry). (first ∷ fields ≡ launch_fields shape place q) × IsGoodEntry shape q) made
-      ( ap (λ (f : List ℕ). f ∷ fields) (sn.0 ∙ ap decimal same) ∙ ap (λ (a : List (List ℕ)). decimal place ∷ a) (st.is ∙ ap (λ (a : List (List ℕ)). taken_fields shape t.0.0.unit t.0.0.group t.0.0.inputs a) (so ∙ ap (λ (a : List (List ℕ)). codes "out" ∷ a) ss.is))
-      , record { taken = st.good; outs_few = ss.few; outs_fit = ss.fits; none = ss.none })
+    subst (λ (q : Entry). (first ∷ fields ≡ launch_fields shape place q) × IsGoodEntry shape q) made (
+      ap (λ (f : List ℕ). f ∷ fields) (sn.0 ∙ ap decimal same) ∙ ap (λ (a : List (List ℕ)). decimal place ∷ a) (st.is ∙ ap (λ (a : List (List ℕ)). taken_fields shape t.0.0.unit t.0.0.group t.0.0.inputs a) (so ∙ ap (λ (a : List (List ℕ)). codes "out" ∷ a) ss.is)),
+      record { taken = st.good; outs_few = ss.few; outs_fit = ss.fits; none = ss.none },
+    )
 
 pub done_sound : (fields : List (List ℕ)) (d : Done) → done_at fields ≡ Some d → (codes "done" ∷ fields ≡ done_fields d) × IsGoodDone d
 unfolding done_at
@@ -259,9 +262,10 @@ done_sound fields d h =
     let sp = named_sound (codes "peak") n.0.1 p.0 p.1 in
     let sb = named_sound (codes "of") p.0.1 b.0 b.1 in
     let se = end_sound b.0.1 e.0 e.1 in
-    subst (λ (q : Done). (codes "done" ∷ fields ≡ done_fields q) × IsGoodDone q) made
-      ( ap (λ (a : List (List ℕ)). codes "done" ∷ a) (sl.0 ∙ ap (λ (a : List (List ℕ)). codes "launches" ∷ decimal l.0.0 ∷ a) (sr.0 ∙ ap (λ (a : List (List ℕ)). codes "records" ∷ decimal r.0.0 ∷ a) (sn.0 ∙ ap (λ (a : List (List ℕ)). codes "denied" ∷ decimal n.0.0 ∷ a) (sp.0 ∙ ap (λ (a : List (List ℕ)). codes "peak" ∷ decimal p.0.0 ∷ a) (sb.0 ∙ ap (λ (a : List (List ℕ)). codes "of" ∷ decimal b.0.0 ∷ a) se)))))
-      , record { launches_fit = sl.1; records_fit = sr.1; denied_fit = sn.1; peak_fits = sp.1; bytes_fit = sb.1 })
+    subst (λ (q : Done). (codes "done" ∷ fields ≡ done_fields q) × IsGoodDone q) made (
+      ap (λ (a : List (List ℕ)). codes "done" ∷ a) (sl.0 ∙ ap (λ (a : List (List ℕ)). codes "launches" ∷ decimal l.0.0 ∷ a) (sr.0 ∙ ap (λ (a : List (List ℕ)). codes "records" ∷ decimal r.0.0 ∷ a) (sn.0 ∙ ap (λ (a : List (List ℕ)). codes "denied" ∷ decimal n.0.0 ∷ a) (sp.0 ∙ ap (λ (a : List (List ℕ)). codes "peak" ∷ decimal p.0.0 ∷ a) (sb.0 ∙ ap (λ (a : List (List ℕ)). codes "of" ∷ decimal b.0.0 ∷ a) se))))),
+      record { launches_fit = sl.1; records_fit = sr.1; denied_fit = sn.1; peak_fits = sp.1; bytes_fit = sb.1 },
+    )
 
 pub buffer_sound : (fields : List (List ℕ)) (b : BufferLine) → buffer_at fields ≡ Some b → (codes "buffer" ∷ fields ≡ buffer_fields b) × IsGoodBuffer b
 unfolding buffer_at
@@ -273,9 +277,10 @@ buffer_sound fields b h =
     let sn = name_sound fields n.0 n.1 in
     let sc = number_at_sound n.0.1 c.0 c.1 in
     let sw = words_sound c.0.1 w.0 w.1 in
-    subst (λ (q : BufferLine). (codes "buffer" ∷ fields ≡ buffer_fields q) × IsGoodBuffer q) made
-      ( ap (λ (a : List (List ℕ)). codes "buffer" ∷ a) (sn.0 ∙ ap (λ (a : List (List ℕ)). n.0.0 ∷ a) (sc.0 ∙ ap (λ (a : List (List ℕ)). decimal c.0.0 ∷ a) sw.0))
-      , record { named = sn.1; count_fits = sc.1; words_fit = sw.1 })
+    subst (λ (q : BufferLine). (codes "buffer" ∷ fields ≡ buffer_fields q) × IsGoodBuffer q) made (
+      ap (λ (a : List (List ℕ)). codes "buffer" ∷ a) (sn.0 ∙ ap (λ (a : List (List ℕ)). n.0.0 ∷ a) (sc.0 ∙ ap (λ (a : List (List ℕ)). decimal c.0.0 ∷ a) sw.0)),
+      record { named = sn.1; count_fits = sc.1; words_fit = sw.1 },
+    )
 
 turns_sound : (shape : Shape) (names : List ℕ → Option ℕ) → IsNaming shape names → (fields : List (List ℕ)) (s : Stop) → turns_at names fields ≡ Some s → (codes "stopped" ∷ codes "turns" ∷ fields ≡ stop_fields shape s) × IsGoodStop shape s
 unfolding turns_at
@@ -287,9 +292,10 @@ turns_sound shape names is fields s h =
     let sn = number_at_sound fields n.0 n.1 in
     let st = taken_sound shape names is n.0.1 t.0 t.1 in
     let se = end_sound t.0.1 e.0 e.1 in
-    subst (λ (q : Stop). (codes "stopped" ∷ codes "turns" ∷ fields ≡ stop_fields shape q) × IsGoodStop shape q) made
-      ( ap (λ (a : List (List ℕ)). codes "stopped" ∷ codes "turns" ∷ a) (sn.0 ∙ ap (λ (a : List (List ℕ)). decimal n.0.0 ∷ a) (st.is ∙ ap (λ (a : List (List ℕ)). taken_fields shape t.0.0.unit t.0.0.group t.0.0.inputs a) se))
-      , (sn.1, st.good))
+    subst (λ (q : Stop). (codes "stopped" ∷ codes "turns" ∷ fields ≡ stop_fields shape q) × IsGoodStop shape q) made (
+      ap (λ (a : List (List ℕ)). codes "stopped" ∷ codes "turns" ∷ a) (sn.0 ∙ ap (λ (a : List (List ℕ)). decimal n.0.0 ∷ a) (st.is ∙ ap (λ (a : List (List ℕ)). taken_fields shape t.0.0.unit t.0.0.group t.0.0.inputs a) se)),
+      (sn.1, st.good),
+    )
 
 launches_sound : (shape : Shape) (fields : List (List ℕ)) (s : Stop) → launches_at fields ≡ Some s → (codes "stopped" ∷ codes "launches" ∷ fields ≡ stop_fields shape s) × IsGoodStop shape s
 unfolding launches_at
@@ -300,7 +306,7 @@ launches_sound shape fields s h =
     let sn = number_at_sound fields n.0 n.1 in
     let se = end_sound n.0.1 e.0 e.1 in
     subst (λ (q : Stop). (codes "stopped" ∷ codes "launches" ∷ fields ≡ stop_fields shape q) × IsGoodStop shape q) made
-      (ap (λ (a : List (List ℕ)). codes "stopped" ∷ codes "launches" ∷ a) (sn.0 ∙ ap (λ (a : List (List ℕ)). decimal n.0.0 ∷ a) se), sn.1)
+    (ap (λ (a : List (List ℕ)). codes "stopped" ∷ codes "launches" ∷ a) (sn.0 ∙ ap (λ (a : List (List ℕ)). decimal n.0.0 ∷ a) se), sn.1)
 
 pub stop_sound : (shape : Shape) (names : List ℕ → Option ℕ) → IsNaming shape names → (fields : List (List ℕ)) (s : Stop) → stop_at names fields ≡ Some s → (codes "stopped" ∷ fields ≡ stop_fields shape s) × IsGoodStop shape s
 stop_sound shape names is [] s h = absurd cc
@@ -321,8 +327,8 @@ line_sound shape names is place [] l h = absurd cc
 line_sound shape names is place (f ∷ fields) l h = kind (bytes_eq f (codes "done")) (bytes_eq f (codes "buffer")) (bytes_eq f (codes "stopped")) refl refl refl h
   where
     kind : (a b c : Bool) → bytes_eq f (codes "done") ≡ a → bytes_eq f (codes "buffer") ≡ b → bytes_eq f (codes "stopped") ≡ c
-      → cond a (option_map (λ (d : Done). lines.Done d) (done_at fields)) (cond b (option_map (λ (d : BufferLine). lines.Buffer d) (buffer_at fields)) (cond c (option_map (λ (s : Stop). lines.Stop s) (stop_at names fields)) (option_map (λ (e : Entry). lines.Launch e) (launch_at names place f fields)))) ≡ Some l
-      → (f ∷ fields ≡ line_fields shape place l) × IsGoodLine shape l
+        → cond a (option_map (λ (d : Done). lines.Done d) (done_at fields)) (cond b (option_map (λ (d : BufferLine). lines.Buffer d) (buffer_at fields)) (cond c (option_map (λ (s : Stop). lines.Stop s) (stop_at names fields)) (option_map (λ (e : Entry). lines.Launch e) (launch_at names place f fields)))) ≡ Some l
+        → (f ∷ fields ≡ line_fields shape place l) × IsGoodLine shape l
     kind true b c p q r e =
         let m = map_some (done_at fields) (λ (d : Done). lines.Done d) l e in
         let s = done_sound fields m.0 m.1 in

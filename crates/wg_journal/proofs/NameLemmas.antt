@@ -2,7 +2,7 @@
 use Rattle.std.proofs.Common.{◌≡◌, ℕ, zero, suc, ◌+◌, ◌^◌, ◌<◌, Bool, true, false, cond, List, [], length, Option, Some, None, refl, sym, ap, subst, ◌∙◌, ⊎_elim, arith}
 use Rattle.std.specs.Prelude.{nat_eq, if◌then◌else◌}
 use Rattle.std.specs.Global.{Vec}
-use Rattle.std.specs.HashMap.{HashMap, get_by, UpdatesBy}
+use Rattle.std.specs.HashMap.{HashMap, UpdatesBy}
 use Rattle.std.specs.Map.{lookup, IsKeyTest, AreApart, KeepsOthers}
 use Rattle.std.specs.Cmp.Lexicographic.{pointwise, nat_list_eq_equiv}
 use Rattle.std.specs.Str.{bytes_eq}
@@ -26,8 +26,10 @@ named_after old new k n h text = ⊎_elim here other (cases_Bool (bytes_eq k.ite
   where
     here : bytes_eq k.items text ≡ true → named_in new text ≡ cond (bytes_eq k.items text) (Some n) (named_in old text)
     here y = subst (λ l. named_in new l ≡ Some n) ((bytes_eq-Decides k.items text).0 y) h.1 ∙ sym (cond-true (bytes_eq k.items text) (Some n) (named_in old text) y)
+
     apart : bytes_eq k.items text ≡ false → (y : Vec ℕ) → bytes_eq k.items y.items ≡ true → bytes_eq text y.items ≡ false
     apart f y t = nat_list_eq_equiv.symm text y.items ∙ (sym (nat_list_eq_equiv.congr k.items y.items text t) ∙ f)
+
     other : bytes_eq k.items text ≡ false → named_in new text ≡ cond (bytes_eq k.items text) (Some n) (named_in old text)
     other f =
         other_entries (λ (x y : Vec ℕ). pointwise nat_eq x.items y.items) (λ (y : Vec ℕ). pointwise nat_eq k.items y.items) old.entries new.entries h.3 (λ (y : Vec ℕ). bytes_eq text y.items) (λ x y. nat_list_eq_equiv.congr text x.items y.items) (apart f)

@@ -4,7 +4,6 @@ use Rattle.std.specs.Prelude.{◌==◌, ◌&&◌, nat_lt}
 use Rattle.std.specs.Fmt.{decimal}
 use Rattle.std.proofs.lemmas.Fmt.{decimal_digit, decimal_step, decimal_by_steps, first_decimal}
 use Rattle.std.proofs.lemmas.List.{append-nil}
-use Rattle.std.proofs.lemmas.Bool.{eqb-true, false_from_ne_true}
 use Rattle.std.proofs.lemmas.Bool.Decides.{nat_tests}
 use Rattle.wg_words.specs.Each.{Each}
 use Rattle.wg_machine.specs.GoodShape.{is_digit}
@@ -64,8 +63,10 @@ number_takes (c ∷ d ∷ text) m e =
     not_led : (b : Bool) (o : Option ℕ) → cond b None o ≡ Some m → (b ≡ false) × (o ≡ Some m)
     not_led true o h = absurd cc
     not_led false o h = (refl, h)
+
     differs : (a : ℕ) → (a == 48) ≡ false → a ≡ 48 → ⊥
     differs a f q = grind (arith, nat_tests)
+
     above : (a : ℕ) → 48 ≤ a → (a ≡ 48 → ⊥) → 1 ≤ 0 * 10 + (a - 48)
     above a low ne = omega arith
 

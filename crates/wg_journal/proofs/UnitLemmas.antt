@@ -1,7 +1,6 @@
 -- No two units of a good shape have one text.
-use Rattle.std.proofs.Common.{◌≡◌, ◌≢◌, ◌⊎◌, ℕ, zero, suc, ◌+◌, ◌-◌, ◌*◌, ◌%◌, ◌^◌, ◌≤◌, ◌<◌, Bool, true, false, cond, List, [], ◌∷◌, ◌++◌, length, map, Option, Some, None, refl, sym, ap, subst, ◌∙◌, append_assoc, arith, inl, inr, ⊎_elim}
-use Rattle.std.specs.Prelude.{◌==◌, ◌&&◌, ◌||◌, IsTrue, slice_get, unwrap_or, codes, if◌then◌else◌}
-use Rattle.std.specs.Option.{option_map}
+use Rattle.std.proofs.Common.{◌≡◌, ◌≢◌, ◌⊎◌, ℕ, zero, suc, ◌+◌, ◌-◌, ◌*◌, ◌%◌, ◌^◌, ◌≤◌, ◌<◌, Bool, true, false, List, [], ◌∷◌, ◌++◌, length, map, Some, refl, sym, ap, subst, ◌∙◌, append_assoc, arith, inl, inr, ⊎_elim}
+use Rattle.std.specs.Prelude.{◌==◌, ◌&&◌, ◌||◌, IsTrue, slice_get, codes, if◌then◌else◌}
 use Rattle.std.specs.List.{list_all}
 use Rattle.std.specs.Fmt.{decimal}
 use Rattle.std.proofs.lemmas.Fmt.{decimal_injective, decimal_by_steps}
@@ -58,6 +57,7 @@ at_place n (d ∷ depths) u m level few e = ⊎_elim own (later (λ v h. at_plac
         let test : (m == n) ≡ true = grind (arith, nat_tests, p.0) in
         let is : d - level ≡ u = omega (arith, p.1) in
         record { low = omega (arith, p.0); high = omega (arith, p.0); level_few = omega (arith, p.1, few.0); placed = rw test (sym is) }
+
     later : ((v : ℕ) → slice_get (unrolled (n + 1) depths) v ≡ Some (m, level) → IsAt (n + 1) depths v m level) → ((v : ℕ) × (u ≡ d + 1 + v) × (slice_get (unrolled (n + 1) depths) v ≡ Some (m, level))) → IsAt n (d ∷ depths) u m level
     later ih p =
         let h = ih p.0 p.2 in
@@ -154,8 +154,8 @@ unit_text_tells a b i j k l p q fi fj fk fl e =
 pub visible_unit_text : (name : List ℕ) (index level : ℕ) → IsTrue (is_identifier name) → index < 2 ^ 64 → level < 2 ^ 64 → Visible (unit_text name index level)
 visible_unit_text name index level h f g =
     visible_append (name ++ codes "[" ++ decimal index ++ codes "]@") (decimal level)
-      (visible_append (name ++ codes "[" ++ decimal index) (codes "]@") (visible_append (name ++ codes "[") (decimal index) (visible_append name (codes "[") (visible_named name (identifier_named name h)) (omega arith, tt)) (visible_decimal index f)) (omega arith, (omega arith, tt)))
-      (visible_decimal level g)
+    (visible_append (name ++ codes "[" ++ decimal index) (codes "]@") (visible_append (name ++ codes "[") (decimal index) (visible_append name (codes "[") (visible_named name (identifier_named name h)) (omega arith, tt)) (visible_decimal index f)) (omega arith, (omega arith, tt)))
+    (visible_decimal level g)
 
 -- ---- the units of a good shape
 

@@ -1,9 +1,9 @@
+ghost use Rattle.std.specs.Prelude.{◌≡◌};
+ghost use Rattle.wg_journal.specs.declared.journal.JournalFault.TheVariants.{Memory};
+
 use std::alloc::{AllocError, AllocFailed};
 use wg_machine::EntryList;
 use wg_words::{Items, Name, Numbers, Words};
-
-ghost use Rattle.std.specs.Prelude.{◌≡◌};
-ghost use Rattle.wg_journal.specs.declared.journal.JournalFault.TheVariants.{Memory};
 
 pub type BufferLines = Items<BufferLine>;
 
@@ -61,9 +61,7 @@ pub enum Stop {
 #[derive(Clone, Copy, Debug, PartialEq, Eq)]
 pub enum JournalFault {
     /// The first line that no report has there, counted from 1.
-    Line {
-        number: u64,
-    },
+    Line { number: u64 },
     Memory,
 }
 

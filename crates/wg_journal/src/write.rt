@@ -53,7 +53,12 @@ fn push_outs(alloc: Global, line: &mut Vec<u8>, first: u64, count: u32) -> Resul
     Ok(())
 }
 
-pub(crate) fn push_unit(alloc: Global, line: &mut Vec<u8>, shape: &Shape, unit: u32) -> Result<(), AllocError>
+pub(crate) fn push_unit(
+    alloc: Global,
+    line: &mut Vec<u8>,
+    shape: &Shape,
+    unit: u32,
+) -> Result<(), AllocError>
     ensures text { OnOk result (line.new.items ≡ line.old.items ++ unit_at shape.now unit) }
     ensures index { OnOk result (index_at shape.now unit < 2 ^ 64) }
 {
@@ -120,11 +125,7 @@ fn push_buffer(alloc: Global, text: &mut Vec<u8>, buffer: &BufferLine) -> Result
     text.extend_from_slice(b"\n")
 }
 
-fn push_buffers(
-    alloc: Global,
-    text: &mut Vec<u8>,
-    buffers: &[BufferLine],
-) -> Result<(), AllocError>
+fn push_buffers(alloc: Global, text: &mut Vec<u8>, buffers: &[BufferLine]) -> Result<(), AllocError>
     ensures { OnOk result (text.new.items ≡ text.old.items ++ flat_map buffer_line buffers.now) }
 {
     for buffer in buffers {
@@ -181,11 +182,7 @@ pub fn stop_text(alloc: Global, stop: &Stop, shape: &Shape) -> Result<Vec<u8>, A
     }
 }
 
-fn push_done(
-    alloc: Global,
-    text: &mut Vec<u8>,
-    done: &Option<Done>,
-) -> Result<(), AllocError>
+fn push_done(alloc: Global, text: &mut Vec<u8>, done: &Option<Done>) -> Result<(), AllocError>
     ensures { OnOk result (text.new.items ≡ text.old.items ++ perhaps done_line done.now) }
 {
     let Some(done) = done else {

@@ -1,4 +1,4 @@
-use Rattle.std.proofs.Common.{◌≡◌, ◌∙◌, ◌+◌, List, ℕ, Some, ap, take}
+use Rattle.std.proofs.Common.{◌∙◌, List, ℕ, Some, ap, take}
 use Rattle.wg_journal.proofs.FieldLemmas.{cut_here, cut_later}
 use Rattle.wg_journal.proofs.fields.cut.Goals as goal
 

@@ -1,4 +1,3 @@
-use Rattle.std.proofs.Common.{◌≡◌}
 use Rattle.wg_journal.proofs.FieldLemmas.{left_none}
 use Rattle.wg_journal.proofs.fields.Fields.is_empty.Goals as goal
 

@@ -1,4 +1,4 @@
-use Rattle.std.proofs.Common.{◌≡◌, ◌∙◌, sym}
+use Rattle.std.proofs.Common.{◌∙◌, sym}
 use Rattle.wg_journal.proofs.FieldLemmas.{next_last, next_first}
 use Rattle.wg_journal.proofs.fields.Fields.next.Goals as goal
 

@@ -1,4 +1,4 @@
-use Rattle.std.proofs.Common.{◌≡◌, ◌≤◌, ◌<◌, ◌^◌, length}
+use Rattle.std.proofs.Common.{◌≡◌, ◌<◌, ◌^◌, length}
 use Rattle.wg_journal.specs.Reading.{outs_from}
 use Rattle.wg_journal.proofs.fields.Fields.outs_after.Given as goal
 

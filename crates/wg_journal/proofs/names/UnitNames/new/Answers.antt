@@ -30,5 +30,5 @@ returns c =
     let same = ap (λ (l : List Unit). length l) c.as_slice-items.ensures in
     let all : c.loop-number.number ≡ length c.args.shape.now.units = omega (arith, c.loop-number-test.false, c.loop-number.auto.number-end) in
     is_naming c.args.shape.now c.loop-number.by_text c.requires
-      (subst (λ (n : ℕ). (text : List ℕ) → named_in c.loop-number.by_text text ≡ last_below c.args.shape.now n text) all c.loop-number.invariant.named)
-      (subst (λ (n : ℕ). (u : ℕ) → u < n → index_at c.args.shape.now u < 2 ^ 64) all c.loop-number.invariant.small)
+    (subst (λ (n : ℕ). (text : List ℕ) → named_in c.loop-number.by_text text ≡ last_below c.args.shape.now n text) all c.loop-number.invariant.named)
+    (subst (λ (n : ℕ). (u : ℕ) → u < n → index_at c.args.shape.now u < 2 ^ 64) all c.loop-number.invariant.small)

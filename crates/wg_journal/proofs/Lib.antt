@@ -6,5 +6,6 @@ pub mod LineSound
 pub mod NameLemmas
 pub mod NumberLemmas
 pub mod RunLemmas
+pub mod SplitShape
 pub mod StepLemmas
 pub mod UnitLemmas

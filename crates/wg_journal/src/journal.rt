@@ -1,7 +1,7 @@
 ghost use Rattle.std.specs.Prelude.{◌≡◌};
 ghost use Rattle.wg_journal.specs.declared.journal.JournalFault.TheVariants.{Memory};
 
-use std::alloc::{AllocError, AllocFailed};
+use std::alloc::AllocError;
 use wg_machine::EntryList;
 use wg_words::{Items, Name, Numbers, Words};
 

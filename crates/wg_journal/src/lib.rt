@@ -13,3 +13,6 @@ pub use journal::{BufferLine, BufferLines, Done, Journal, JournalFault, Stop, Ta
 pub use reading::read;
 pub use wg_machine::Entry;
 pub use write::{done_text, line, print, stop_text};
+
+#[cfg(test)]
+mod tests;

@@ -20,7 +20,7 @@ fn push_number(alloc: Global, line: &mut Vec<u8>, n: u64) -> Result<(), AllocErr
 fn push_spaced(alloc: Global, line: &mut Vec<u8>, n: u64) -> Result<(), AllocError>
     ensures { OnOk result (line.new.items ≡ line.old.items ++ spaced n) }
 {
-    line.extend_from_slice(b" ")?;
+    line.push(b' ')?;
     push_number(alloc, line, n)
 }
 

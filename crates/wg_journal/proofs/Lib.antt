@@ -1,0 +1,11 @@
+pub mod FieldLemmas
+pub mod JoinLemmas
+pub mod LineAgain
+pub mod LineForms
+pub mod LineSound
+pub mod NameLemmas
+pub mod NumberLemmas
+pub mod RunLemmas
+pub mod SplitShape
+pub mod StepLemmas
+pub mod UnitLemmas

@@ -1,1 +1,4 @@
+pub mod Names
+pub mod Reading
+pub mod Report
 pub mod Texts

@@ -1,13 +1,18 @@
--- The report's lines. Its format is this project's own.
-use Rattle.std.specs.Prelude.{ℕ, ◌+◌, List, [], ◌∷◌, ◌++◌, slice_get, unwrap_or, codes}
+-- The report as a text: one line a launch, then how the run ended. Its format is this project's own.
+use Rattle.std.specs.Prelude.{ℕ, ◌+◌, List, [], ◌∷◌, ◌++◌, Option, Some, None, slice_get, unwrap_or, codes}
 use Rattle.std.specs.Option.{option_map}
-use Rattle.std.specs.List.{range_with_len}
+use Rattle.std.specs.List.{flat_map, range_with_len}
 use Rattle.std.specs.Fmt.{decimal}
 use Rattle.wg_machine.specs.declared.shape.Shape.{Shape}
 use Rattle.wg_machine.specs.declared.shape.Unit.{Unit}
 use Rattle.wg_machine.specs.declared.shape.NodeName.{NodeName}
 use Rattle.wg_machine.specs.declared.launch.Entry.{Entry}
 use Rattle.wg_journal.specs.declared.journal.Done.{Done}
+use Rattle.wg_journal.specs.declared.journal.BufferLine.{BufferLine}
+use Rattle.wg_journal.specs.declared.journal.Stop.{Stop}
+use Rattle.wg_journal.specs.declared.journal.Stop.TheVariants.{Turns, Launches}
+use Rattle.wg_journal.specs.declared.journal.Tail.{Tail}
+use Rattle.wg_journal.specs.declared.journal.Journal.{Journal}
 
 -- a space and a number in decimal
 abbrev pub spaced : ℕ → List ℕ
@@ -42,3 +47,34 @@ abbrev pub done_line : Done → List ℕ
 done_line d =
     codes "done launches" ++ spaced d.launches ++ codes " records" ++ spaced d.records ++ codes " denied" ++ spaced d.denied
     ++ codes " peak" ++ spaced d.peak ++ codes " of" ++ spaced d.bytes ++ codes "\n"
+
+-- a buffer of a complete run: `buffer NAME COUNT` and its words
+abbrev pub buffer_line : BufferLine → List ℕ
+buffer_line b = codes "buffer " ++ b.name ++ spaced b.count ++ all_spaced b.words ++ codes "\n"
+
+-- a launch that spent its turns: `stopped turns T NAME[i]@level g X Y Z in A B`
+abbrev pub turns_line : Shape → ℕ → ℕ → List ℕ → List ℕ → List ℕ
+turns_line shape turns unit group inputs =
+    codes "stopped turns" ++ spaced turns ++ codes " " ++ unit_at shape unit ++ codes " g" ++ all_spaced group ++ codes " in"
+    ++ all_spaced inputs ++ codes "\n"
+
+-- a run that spent its launches: `stopped launches L`
+abbrev pub launches_line : ℕ → List ℕ
+launches_line launches = codes "stopped launches" ++ spaced launches ++ codes "\n"
+
+-- an early stop
+abbrev pub stop_line : Shape → Stop → List ℕ
+stop_line shape (Turns turns unit group inputs) = turns_line shape turns unit group inputs
+stop_line shape (Launches launches) = launches_line launches
+
+-- a line that may be there
+abbrev pub perhaps : {X : Type 0} → (X → List ℕ) → Option X → List ℕ
+perhaps line None = []
+perhaps line (Some x) = line x
+
+abbrev pub tail_text : Shape → Tail → List ℕ
+tail_text shape t = perhaps done_line t.done ++ flat_map buffer_line t.buffers ++ perhaps (stop_line shape) t.stop
+
+-- the whole report
+abbrev pub report_text : Shape → Journal → List ℕ
+report_text shape j = launch_lines shape 0 j.entries ++ tail_text shape j.tail

@@ -1,0 +1,37 @@
+ghost use Rattle.std.specs.Prelude.{◌≡◌, IfOk};
+ghost use Rattle.wg_machine.specs.GoodShape.{IsGoodShape};
+ghost use Rattle.wg_journal.specs.Names.{unit_in, IsNaming};
+
+use crate::write::push_unit;
+use std::alloc::{AllocError, Global};
+use std::collections::HashMap;
+use wg_machine::Shape;
+
+/// The units of a shape by their texts.
+#[derive(Drop)]
+pub struct UnitNames {
+    by_text: HashMap<Vec<u8>, u32>,
+}
+
+impl UnitNames {
+    pub fn new(alloc: Global, shape: &Shape) -> Result<UnitNames, AllocError>
+        requires { IsGoodShape shape.now }
+        ensures { IfOk result (λ names. IsNaming shape.now (unit_in names)) }
+    {
+        let mut by_text = HashMap::new(alloc);
+        for (number, _) in shape.units.as_slice().iter().enumerate() {
+            let number = number as u32;
+            let mut text = Vec::new(alloc);
+            push_unit(alloc, &mut text, shape, number)?;
+            by_text.insert(text, number)?;
+        }
+        Ok(UnitNames { by_text })
+    }
+
+    /// The unit that a text names.
+    pub fn find(&self, text: &[u8]) -> Option<u32>
+        ensures { result ≡ unit_in self.now text.now }
+    {
+        self.by_text.get(text).copied()
+    }
+}

@@ -1,0 +1,7 @@
+use Rattle.std.proofs.Common.{◌≡◌, ◌++◌, drop}
+use Rattle.wg_journal.specs.Texts.{all_spaced}
+use Rattle.wg_journal.proofs.write.push_numbers.Given as goal
+
+-- the line so far and what is left make the whole line
+abbrev pub invariant-loop-n : goal.invariant-loop-n
+invariant-loop-n l = l.line.items ++ all_spaced (drop l.n-index l.numbers) ≡ l.fn.line.items ++ all_spaced l.numbers

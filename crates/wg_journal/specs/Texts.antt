@@ -1,0 +1,44 @@
+-- The report's lines. Its format is this project's own.
+use Rattle.std.specs.Prelude.{ℕ, ◌+◌, List, [], ◌∷◌, ◌++◌, slice_get, unwrap_or, codes}
+use Rattle.std.specs.Option.{option_map}
+use Rattle.std.specs.List.{range_with_len}
+use Rattle.std.specs.Fmt.{decimal}
+use Rattle.wg_machine.specs.declared.shape.Shape.{Shape}
+use Rattle.wg_machine.specs.declared.shape.Unit.{Unit}
+use Rattle.wg_machine.specs.declared.shape.NodeName.{NodeName}
+use Rattle.wg_machine.specs.declared.launch.Entry.{Entry}
+use Rattle.wg_journal.specs.declared.journal.Done.{Done}
+
+-- a space and a number in decimal
+abbrev pub spaced : ℕ → List ℕ
+spaced n = 32 ∷ decimal n
+
+abbrev pub all_spaced : List ℕ → List ℕ
+all_spaced [] = []
+all_spaced (n ∷ ns) = spaced n ++ all_spaced ns
+
+-- a unit: `NAME[i]@level`
+abbrev pub unit_text : List ℕ → ℕ → ℕ → List ℕ
+unit_text name index level = name ++ codes "[" ++ decimal index ++ codes "]@" ++ decimal level
+
+-- the unit of a number; nothing where the shape has none
+abbrev pub unit_at : Shape → ℕ → List ℕ
+unit_at shape u =
+    unwrap_or (option_map (λ (n : Unit). unwrap_or (option_map (λ (m : NodeName). unit_text m.name m.index n.level) (slice_get shape.nodes n.node)) []) (slice_get shape.units u)) []
+
+-- the line of the launch at a place: `K NAME[i]@level g X Y Z in A B out C D`
+abbrev pub launch_line : Shape → ℕ → Entry → List ℕ
+launch_line shape k e =
+    decimal k ++ codes " " ++ unit_at shape e.unit ++ codes " g" ++ all_spaced e.at ++ codes " in" ++ all_spaced e.inputs
+    ++ codes " out" ++ all_spaced (range_with_len e.first_out e.outs) ++ codes "\n"
+
+-- the lines of launches, numbered on from a place
+abbrev pub launch_lines : Shape → ℕ → List Entry → List ℕ
+launch_lines shape k [] = []
+launch_lines shape k (e ∷ entries) = launch_line shape k e ++ launch_lines shape (k + 1) entries
+
+-- the line after the launches of a complete run: `done launches N records M denied D peak P of Q`
+abbrev pub done_line : Done → List ℕ
+done_line d =
+    codes "done launches" ++ spaced d.launches ++ codes " records" ++ spaced d.records ++ codes " denied" ++ spaced d.denied
+    ++ codes " peak" ++ spaced d.peak ++ codes " of" ++ spaced d.bytes ++ codes "\n"

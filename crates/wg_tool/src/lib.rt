@@ -1,0 +1,8 @@
+//! The top calls: from the words of a command line to a status.
+#![tactic(auto)]
+
+mod graph;
+mod pair;
+mod parts;
+
+pub use pair::{Pair, Pairs, Sends};

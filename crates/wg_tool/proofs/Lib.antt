@@ -1,2 +1,4 @@
 pub mod FormLemmas
+pub mod GoodShapes
 pub mod PartLemmas
+pub mod ShapeLemmas

@@ -1,2 +1,4 @@
 pub mod FirstForm
 pub mod Parts
+pub mod Script
+pub mod Wiring

@@ -4,5 +4,7 @@
 mod graph;
 mod pair;
 mod parts;
+mod script;
+mod wiring;
 
 pub use pair::{Pair, Pairs, Sends};

@@ -216,7 +216,7 @@ not_again p pairs j n d here there =
     let found : IsTrue (list_any (is_named p.name) pairs) = subst (λ (m : List ℕ). IsTrue (list_any (is_named m) pairs)) name (named_in pairs j n there) in
     true_is_not_false (sym found ∙ (differ_parts p pairs d).0)
 
-nodes_differ : (pairs : List Pair) (i j : ℕ) (n : NodeName) → IsTrue (names_differ pairs) → slice_get (map node_of pairs) i ≡ Some n → slice_get (map node_of pairs) j ≡ Some n → i ≡ j
+pub nodes_differ : (pairs : List Pair) (i j : ℕ) (n : NodeName) → IsTrue (names_differ pairs) → slice_get (map node_of pairs) i ≡ Some n → slice_get (map node_of pairs) j ≡ Some n → i ≡ j
 nodes_differ [] i j n d p q = absurd (none-some n p)
 nodes_differ (x ∷ pairs) zero zero n d p q = refl
 nodes_differ (x ∷ pairs) zero (suc j) n d p q = let here : node_of x ≡ n = cc in absurd (not_again x pairs j n d here q)

@@ -1,4 +1,5 @@
 pub mod FormLemmas
 pub mod GoodShapes
 pub mod PartLemmas
+pub mod ScriptLemmas
 pub mod ShapeLemmas

@@ -8,16 +8,20 @@ use Rattle.wg_tool.specs.declared.pair.Pair.{Pair}
 use Rattle.wg_tool.specs.declared.script.TheConstants.{SCRIPT_LINE, ENTRY, BLANK, LINE_END}
 use Rattle.wg_tool.specs.Wiring.{targets_of, is_free}
 
--- the line of an entry record of a node
+-- a node's name and a word, as the line of an entry record
 abbrev pub entry_line : List ℕ → ℕ → List ℕ
 entry_line name word = ENTRY.now ++ (name ++ (BLANK.now ++ (decimal word ++ LINE_END.now)))
 
 abbrev pub name_at : List Pair → ℕ → List ℕ
 name_at pairs u = unwrap_or (option_map (λ (p : Pair). p.name) (slice_get pairs u)) []
 
+-- the line of an entry record
+abbrev pub line_of : List Pair → Sent → List ℕ
+line_of pairs s = entry_line (name_at pairs s.unit) (slice_index s.words 0)
+
 abbrev pub entry_lines : List Pair → List Sent → List ℕ
 entry_lines pairs [] = []
-entry_lines pairs (s ∷ entries) = entry_line (name_at pairs s.unit) (slice_index s.words 0) ++ entry_lines pairs entries
+entry_lines pairs (s ∷ entries) = line_of pairs s ++ entry_lines pairs entries
 
 -- the text of a script
 abbrev pub script_text : List Pair → List Sent → List ℕ

@@ -22,6 +22,8 @@ use Rattle.wg_tool.specs.declared.pair.Sends.{Sends}
 use Rattle.wg_tool.specs.Parts.{is_name}
 use Rattle.wg_tool.specs.FirstForm.{IsGoodPair, IsFirstForm, is_named, names_differ}
 use Rattle.wg_tool.specs.Wiring.{unit_of, later_units, units_of, goes_later, are_later, target_in, targets_from, targets_of, budgets_of, outputs_of, node_of, shape_of}
+use Rattle.wg_tool.specs.Sending.{target_at}
+use Rattle.wg_tool.specs.SenderLaws.{SendsTo, IsWired}
 use Rattle.wg_tool.proofs.FormLemmas.{true_is_not_false}
 use Rattle.wg_tool.proofs.ShapeLemmas.{and_both, both_and, unit_sends, are_deep, deep_at, unit_at, length_units, deeper_than, later_at, shallow_units, AreShallow}
 
@@ -243,3 +245,38 @@ good_shape pairs form =
       buffer_names = tt;
       buffers_differ = λ i j m p q. absurd (none-some m p);
     }
+
+target_there : (ts : List (Option ℕ)) (u t : ℕ) → target_at ts u ≡ Some t → slice_get ts u ≡ Some (Some t)
+target_there ts u t e = choice (slice_get ts u) e
+  where
+    choice : (o : Option (Option ℕ)) → unwrap_or o None ≡ Some t → o ≡ Some (Some t)
+    choice None h = absurd (cc)
+    choice (Some x) h = ap (λ (y : Option ℕ). Some y) h
+
+wired_at : (nodes : List NodeName) (ts : List (Option ℕ)) (u t : ℕ) → IsTrue (are_later (length ts) 0 ts) → slice_get ts u ≡ Some (Some t) → SendsTo (wired nodes ts) u t
+wired_at nodes ts u t later at =
+    let far = later_at (length ts) 0 u ts t later at in
+    let high = far.1 in
+    let inside = slice_get_within ts u (Some t) at in
+    let l = length_units ts [] 0 ts in
+    let v = unit_there ts t high in
+    let i = unit_at ts [] 0 t ts v.0 v.1 in
+    let w = unit_there ts u inside in
+    let j = unit_at ts [] 0 u ts w.0 w.1 in
+    let both : Some j.target ≡ Some (Some t) = sym j.at ∙ at in
+    let target : j.target ≡ Some t = cc in
+    let outs : w.0.outputs ≡ outputs_of (Some t) = ap (λ (x : Unit). x.outputs) j.is ∙ ap (λ (o : Option ℕ). outputs_of o) target in
+    let budget : w.0.budgets ≡ budgets_of (Some t) = ap (λ (x : Unit). x.budgets) j.is ∙ ap (λ (o : Option ℕ). budgets_of o) target in
+    record {
+      within = omega arith;
+      words = ap (λ (o : Option Unit). unwrap_or (option_map (λ (n : Unit). n.words) o) 0) v.1 ∙ ap (λ (x : Unit). x.words) i.is;
+      outputs = ap (λ (o : Option Unit). unwrap_or (option_map (λ (n : Unit). n.outputs) o) []) w.1 ∙ outs;
+      budgets = ap (λ (o : Option Unit). unwrap_or (option_map (λ (n : Unit). n.budgets) o) []) w.1 ∙ budget;
+    }
+
+-- the shape of a graph is wired to its targets
+pub graph_wired : (pairs : List Pair) → IsWired (shape_of pairs) (targets_of pairs)
+graph_wired pairs u t e =
+    let ts = targets_of pairs in
+    let n = length_targets 0 pairs in
+    wired_at (map node_of pairs) ts u t (targets_later (length ts) 0 pairs (omega arith)) (target_there ts u t e)

@@ -1,5 +1,7 @@
 pub mod FormLemmas
 pub mod GoodShapes
 pub mod PartLemmas
+pub mod PrintLemmas
 pub mod ScriptLemmas
 pub mod ShapeLemmas
+pub mod WriteLemmas

@@ -1,5 +1,8 @@
+pub mod Answers
 pub mod FirstForm
+pub mod Headline
 pub mod Parts
+pub mod Report
 pub mod Script
 pub mod SenderLaws
 pub mod Sending

@@ -1,13 +1,17 @@
 //! The top calls: from the words of a command line to a status.
 #![tactic(auto)]
 
+mod answer;
 mod bodies;
 mod graph;
+mod limits;
 mod pair;
 mod parts;
+mod print;
 mod script;
 mod senders;
 mod sending;
 mod wiring;
+mod write;
 
 pub use pair::{Pair, Pairs, Sends};

@@ -3,6 +3,7 @@ pub mod FirstForm
 pub mod Headline
 pub mod Parts
 pub mod Report
+pub mod Running
 pub mod Script
 pub mod SenderLaws
 pub mod Sending

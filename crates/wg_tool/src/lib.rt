@@ -8,6 +8,7 @@ mod limits;
 mod pair;
 mod parts;
 mod print;
+mod run;
 mod script;
 mod senders;
 mod sending;

@@ -7,7 +7,40 @@ use Rattle.wg_machine.specs.LaunchMeaning.{Meaning}
 use Rattle.wg_core.specs.declared.pending.Pending.{Pending}
 use Rattle.wg_core.specs.Core.{CoreView}
 use Rattle.wg_core.specs.Moves.{TakesStep}
-use Rattle.wg_tool.specs.Running.{KeepsPlan, IsReady, IsOnlyOut, RanOne}
+use Rattle.std.specs.Prelude.{IfSome, slice_get, slice_index, unwrap_or}
+use Rattle.std.specs.Option.{option_map}
+use Rattle.std.proofs.Common.{Option, ◌^◌, ◌%◌}
+use Rattle.wg_words.specs.Each.{Each}
+use Rattle.wg_machine.specs.declared.launch.Launch.{Launch}
+use Rattle.wg_machine.specs.declared.launch.Sent.{Sent}
+use Rattle.wg_machine.specs.declared.shape.Kind.{Kind}
+use Rattle.wg_machine.specs.declared.shape.Kind.TheVariants.{Thread}
+use Rattle.wg_machine.specs.declared.shape.Shape.{Shape}
+use Rattle.wg_machine.specs.declared.shape.Unit.{Unit}
+use Rattle.wg_machine.specs.Buffers.{Buffers}
+use Rattle.wg_machine.specs.Bytes.{KeepsSlots, live_bytes, plan_bytes, peak}
+use Rattle.wg_machine.specs.Choice.{SomeHasRoom}
+use Rattle.wg_machine.specs.Fitting.{IsLawful, OnlyThreads, SendsOne}
+use Rattle.wg_machine.specs.GoodShape.{IsGoodShape}
+use Rattle.wg_machine.specs.LaunchMeaning.{Arrives}
+use Rattle.wg_machine.specs.Run.{IsRun, IsComplete, EachOnce, EachState, all_born, denied_of}
+use Rattle.wg_machine.specs.State.{State, start}
+use Rattle.wg_machine.specs.Step.{Passed}
+use Rattle.wg_machine.specs.Units.{kind_at, words_at}
+use Rattle.wg_core.specs.declared.report.Report.{Report}
+use Rattle.wg_core.specs.Standing.{StandsFor}
+use Rattle.wg_core.specs.Tables.{IsIdle}
+use Rattle.wg_journal.specs.declared.journal.Done.{Done}
+use Rattle.wg_tool.specs.declared.pair.Pair.{Pair}
+use Rattle.wg_tool.specs.FirstForm.{IsFirstForm}
+use Rattle.wg_tool.specs.Report.{IsReport, report_text, done_of, done_in}
+use Rattle.wg_tool.specs.Running.{KeepsPlan, IsReady, IsOnlyOut, RanOne, IsShort, IsRunnable}
+use Rattle.wg_tool.specs.Script.{IsScript, IsGoodEntry}
+use Rattle.wg_tool.specs.SenderLaws.{IsWired, sender_lawful}
+use Rattle.wg_tool.specs.Sending.{sender, target_at, one_sent, word_of}
+use Rattle.wg_tool.specs.Wiring.{unit_of, later_units, units_of, targets_of, shape_of}
+use Rattle.wg_tool.proofs.GoodShapes.{unit_there, length_targets}
+use Rattle.wg_tool.proofs.ShapeLemmas.{unit_at, length_units}
 
 lone : (before later : List Pending) (p o : Pending) → before ++ p ∷ later ≡ o ∷ [] → before ++ later ≡ []
 lone [] later p o e = cc
@@ -25,3 +58,117 @@ ran_one made old new ticket out s =
       };
       longer = ap (λ (c : CoreView). length c.journal) s.after ∙ length_push old.journal e;
     }
+
+-- the law that runs of such graphs are short
+abbrev pub ShortLaw : Type 0
+ShortLaw =
+    (shape : Shape) (made : Meaning) (turns : ℕ) (script : List Sent) (buffers : Buffers) (entries : List Entry) (trail : List Passed) (final : State)
+    → IsGoodShape shape → IsLawful shape made → OnlyThreads shape → SendsOne shape made → Each (Arrives shape) script
+    → IsRun shape made turns (start shape script buffers) entries trail final → length entries ≤ 32 * length script
+
+-- the law that complete runs take each group once
+abbrev pub OnceLaw : Type 0
+OnceLaw =
+    (shape : Shape) (made : Meaning) (turns : ℕ) (script : List Sent) (buffers : Buffers) (entries : List Entry) (trail : List Passed) (final : State)
+    → IsRun shape made turns (start shape script buffers) entries trail final → IsComplete final → EachOnce (all_born shape script trail) entries
+
+-- the law that slots hold the bytes
+abbrev pub BytesLaw : Type 0
+BytesLaw = (shape : Shape) (width entries : ℕ) (s : State) → KeepsSlots shape width entries s → live_bytes shape entries s ≤ plan_bytes shape width
+
+-- the law that something has room
+abbrev pub RoomLaw : Type 0
+RoomLaw = (shape : Shape) (width entries : ℕ) (s : State) → IsGoodShape shape → 1 ≤ width → KeepsSlots shape width entries s → s.bag ≢ [] → SomeHasRoom shape width entries s
+
+-- the law that a core that is idle is done
+abbrev pub IdleLaw : Type 0
+IdleLaw = (made : Meaning) (script : List Sent) (start_buffers : Buffers) (core : CoreView) (s : StandsFor made script start_buffers core) → IsIdle core → IsComplete s.state
+
+units_threads : (all : List (Option ℕ)) (built : List Unit) (k : ℕ) (ts : List (Option ℕ)) → Each (λ (u : Unit). u.kind ≡ Thread) (later_units all built k ts)
+units_threads all built k [] = tt
+units_threads all built k (t ∷ ts) = (refl, units_threads all (built ++ unit_of all k _ t ∷ []) (k + 1) ts)
+
+-- each node is a thread node
+pub threads : (pairs : List Pair) → Each (λ (u : Unit). u.kind ≡ Thread) (shape_of pairs).units
+threads pairs = units_threads (targets_of pairs) [] 0 (targets_of pairs)
+
+kind_in : (us : List Unit) (u : ℕ) → Each (λ (x : Unit). x.kind ≡ Thread) us → unwrap_or (option_map (λ (n : Unit). n.kind) (slice_get us u)) Thread ≡ Thread
+kind_in [] u e = refl
+kind_in (x ∷ us) zero e = e.0
+kind_in (x ∷ us) (suc u) e = kind_in us u e.1
+
+only_threads : (pairs : List Pair) → OnlyThreads (shape_of pairs)
+only_threads pairs u = kind_in (shape_of pairs).units u (threads pairs)
+
+sends_one : (shape : Shape) (targets : List (Option ℕ)) (adds : List ℕ) → SendsOne shape (sender targets adds)
+sends_one shape targets adds l m t fits = few (target_at targets l.unit)
+  where
+    few : (o : Option ℕ) → length (one_sent o ((word_of l + slice_index adds l.unit) % 2 ^ 32)) ≤ 1
+    few None = omega arith
+    few (Some t) = omega arith
+
+entry_arrives : (pairs : List Pair) (s : Sent) → IsGoodEntry pairs s → Arrives (shape_of pairs) s
+entry_arrives pairs s good =
+    let ts = targets_of pairs in
+    let n = length_targets 0 pairs in
+    let l = length_units ts [] 0 ts in
+    let inside = good.unit in
+    let here : s.unit < length ts = omega arith in
+    let v = unit_there ts s.unit here in
+    let i = unit_at ts [] 0 s.unit ts v.0 v.1 in
+    let words : words_at (shape_of pairs) s.unit ≡ 1 = ap (λ (o : Option Unit). unwrap_or (option_map (λ (x : Unit). x.words) o) 0) v.1 ∙ ap (λ (x : Unit). x.words) i.is in
+    record { unit = omega arith; words = ap (λ (w : List ℕ). length w) good.one ∙ sym words }
+
+-- the entry records arrive
+pub entries_arrive : (pairs : List Pair) (script : List Sent) → Each (IsGoodEntry pairs) script → Each (Arrives (shape_of pairs)) script
+entries_arrive pairs [] all = tt
+entries_arrive pairs (s ∷ script) all = (entry_arrives pairs s all.0, entries_arrive pairs script all.1)
+
+-- runs of a graph of the first form from a script are shorter than they may be
+pub runs_are_short : (pairs : List Pair) (targets : List (Option ℕ)) (adds : List ℕ) (script : List Sent) → ShortLaw → IsGoodShape (shape_of pairs) → IsWired (shape_of pairs) targets → IsScript pairs script → IsShort (shape_of pairs) (sender targets adds) script
+runs_are_short pairs targets adds script law good wired entries core same stands =
+    let made = sender targets adds in
+    let run = subst (λ (s : Shape). IsRun s made core.limits.turns (start s script []) core.journal stands.trail stands.state) same stands.run in
+    let few = entries.few in
+    let h = law (shape_of pairs) made core.limits.turns script [] core.journal stands.trail stands.state good (λ l m t fits. sender_lawful (shape_of pairs) targets adds l m t wired) (only_threads pairs) (sends_one (shape_of pairs) targets adds) (entries_arrive pairs script entries.each) run in
+    omega arith
+
+each_weaker : (P Q : State → Type 0) (s : State) (trail : List Passed) → ((x : State) → P x → Q x) → EachState P s trail → EachState Q s trail
+each_weaker P Q s [] h e = h s e
+each_weaker P Q s (p ∷ trail) h e = (h s e.0, each_weaker P Q p.after trail h e.1)
+
+done_equal : (l r d p b r' d' p' b' : ℕ) → r ≡ r' → d ≡ d' → p ≡ p' → b ≡ b' → let x : Done = record { launches = l; records = r; denied = d; peak = p; bytes = b } in let y : Done = record { launches = l; records = r'; denied = d'; peak = p'; bytes = b' } in x ≡ y
+done_equal l r d p b r' d' p' b' e f g h = rw (e, f, g, h) refl
+
+-- what a core that is done came to is the report of its run
+pub report_is : (made : Meaning) (script : List Sent) (core : CoreView) (r : Report) → OnceLaw → BytesLaw → RoomLaw → IdleLaw → IsGoodShape core.shape → StandsFor made script [] core → core.width ≡ 1 → core.limits.turns ≡ 65536 → IsIdle core
+    → r.entries ≡ core.journal → r.records ≡ core.next → r.denied ≡ core.denied → r.peak ≡ core.peak → r.bytes ≡ plan_bytes core.shape core.width
+    → IsReport core.shape made script (report_text core.shape r.entries (done_in r))
+report_is made script core r once_law bytes_law room_law idle_law good s width turns idle entries records denied peaks bytes =
+    let shape = core.shape in
+    let first = start shape script [] in
+    let n = length script in
+    let slots_1 : EachState (KeepsSlots shape 1 core.handed) first s.trail = subst (λ (w : ℕ). EachState (KeepsSlots shape w core.handed) first s.trail) width s.slots in
+    let slots : EachState (KeepsSlots shape 1 n) first s.trail = subst (λ (h : ℕ). EachState (KeepsSlots shape 1 h) first s.trail) s.handed slots_1 in
+    let run : IsRun shape made 65536 first core.journal s.trail s.state = subst (λ (t : ℕ). IsRun shape made t first core.journal s.trail s.state) turns s.run in
+    let complete = idle_law made script [] core s idle in
+    let peak_is : r.peak ≡ peak shape n first s.trail = peaks ∙ (s.peak ∙ ap (λ (h : ℕ). peak shape h first s.trail) s.handed) in
+    let bytes_are : r.bytes ≡ plan_bytes shape 1 = bytes ∙ ap (λ (w : ℕ). plan_bytes shape w) width in
+    let lines : report_text shape r.entries (done_in r) ≡ report_text shape core.journal (record { launches = length core.journal; records = r.records; denied = r.denied; peak = r.peak; bytes = r.bytes }) = ap (λ (j : List Entry). report_text shape j (record { launches = length j; records = r.records; denied = r.denied; peak = r.peak; bytes = r.bytes })) entries in
+    let done = done_equal (length core.journal) r.records r.denied r.peak r.bytes s.state.next (denied_of s.trail) (peak shape n first s.trail) (plan_bytes shape 1) (records ∙ s.next) (denied ∙ s.denied) peak_is bytes_are in
+    record {
+      journal = core.journal;
+      trail = s.trail;
+      final = s.state;
+      run = run;
+      complete = complete;
+      once = once_law shape made 65536 script [] core.journal s.trail s.state run complete;
+      within = each_weaker (KeepsSlots shape 1 n) (λ x. live_bytes shape n x ≤ plan_bytes shape 1) first s.trail (λ x k. bytes_law shape 1 n x k) slots;
+      never_stands = each_weaker (KeepsSlots shape 1 n) (λ x. x.bag ≢ [] → SomeHasRoom shape 1 n x) first s.trail (λ x k. room_law shape 1 n x good (omega arith) k) slots;
+      text_is = lines ∙ ap (λ (d : Done). report_text shape core.journal d) done;
+    }
+
+-- the numbers of sent records fit
+pub outs_fit : (n : ℕ) (es : List Entry) → n < 2 ^ 64 → Each (λ (e : Entry). e.first_out + e.outs ≤ n) es → Each (λ (e : Entry). e.first_out + e.outs ≤ 2 ^ 64) es
+outs_fit n [] h all = tt
+outs_fit n (e ∷ es) h all = (let x = all.0 in omega arith, outs_fit n es h all.1)

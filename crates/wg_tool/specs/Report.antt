@@ -9,6 +9,7 @@ use Rattle.wg_machine.specs.LaunchMeaning.{Meaning}
 use Rattle.wg_machine.specs.Run.{IsRun, IsComplete, EachState, EachOnce, all_born, denied_of}
 use Rattle.wg_machine.specs.State.{State, start}
 use Rattle.wg_machine.specs.Step.{Passed}
+use Rattle.wg_core.specs.declared.report.Report.{Report}
 use Rattle.wg_journal.specs.declared.journal.Done.{Done}
 use Rattle.wg_journal.specs.Texts.{launch_lines, done_line}
 use Rattle.wg_tool.specs.declared.limits.TheConstants.{TURNS}
@@ -23,6 +24,10 @@ done_of shape script journal trail final =
       peak = peak shape (length script) (start shape script []) trail;
       bytes = plan_bytes shape 1;
     }
+
+-- the numbers of the last line of what a core came to
+abbrev pub done_in : Report → Done
+done_in r = record { launches = length r.entries; records = r.records; denied = r.denied; peak = r.peak; bytes = r.bytes }
 
 -- the launch lines of a journal, and the last line
 abbrev pub report_text : Shape → List Entry → Done → List ℕ

@@ -7,6 +7,10 @@ use Rattle.wg_core.specs.declared.pending.Pending.{Pending}
 use Rattle.wg_core.specs.Core.{CoreView}
 use Rattle.wg_core.specs.Standing.{StandsFor}
 use Rattle.wg_tool.specs.declared.limits.TheConstants.{LAUNCHES}
+use Rattle.wg_tool.specs.declared.pair.Pair.{Pair}
+use Rattle.wg_tool.specs.FirstForm.{IsFirstForm}
+use Rattle.wg_tool.specs.Script.{IsScript}
+use Rattle.wg_tool.specs.Wiring.{shape_of}
 
 -- the graph, its plan and the limits stay
 pub record KeepsPlan (old new : CoreView) : Type 0 where
@@ -40,3 +44,10 @@ pub record StandsShort (made : Meaning) (core : CoreView) : Type 0 where
   pub script : List Sent
   pub stands : StandsFor made script [] core
   pub short : IsShort core.shape made script
+
+-- a graph of the first form with a script of its
+pub record IsRunnable (shape : Shape) (script : List Sent) : Type 0 where
+  pub pairs : List Pair
+  pub form : IsFirstForm pairs
+  pub is : shape ≡ shape_of pairs
+  pub entries : IsScript pairs script

@@ -9,6 +9,7 @@ mod pair;
 mod parts;
 mod print;
 mod run;
+mod runs;
 mod script;
 mod senders;
 mod sending;

@@ -1,3 +1,4 @@
+pub mod AnswerLemmas
 pub mod FormLemmas
 pub mod GoodShapes
 pub mod PartLemmas
@@ -5,4 +6,5 @@ pub mod PrintLemmas
 pub mod RunLemmas
 pub mod ScriptLemmas
 pub mod ShapeLemmas
+pub mod StageLemmas
 pub mod WriteLemmas

@@ -7,4 +7,5 @@ pub mod Running
 pub mod Script
 pub mod SenderLaws
 pub mod Sending
+pub mod Stages
 pub mod Wiring

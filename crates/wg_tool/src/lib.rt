@@ -3,6 +3,7 @@
 
 mod answer;
 mod bodies;
+mod call;
 mod graph;
 mod limits;
 mod pair;
@@ -10,6 +11,7 @@ mod parts;
 mod print;
 mod run;
 mod runs;
+mod say;
 mod script;
 mod senders;
 mod sending;

@@ -1,6 +1,7 @@
 ghost use Rattle.std.specs.Prelude.{◌≡◌, List, ℕ, IfSome, IfNone};
 ghost use Rattle.wg_tool.specs.Answers.{Concludes, status_of};
 ghost use Rattle.wg_tool.specs.FirstForm.{IsFirstForm};
+ghost use Rattle.wg_tool.specs.Headline.{AreRun, RunSays, texts_of};
 ghost use Rattle.wg_tool.specs.Running.{IsRunnable};
 ghost use Rattle.wg_tool.specs.Sending.{sender};
 ghost use Rattle.wg_tool.specs.Stages.{RanSays, ScriptSays, FileSays};
@@ -83,5 +84,45 @@ fn answer_script<F: Files, S: Sink>(
     match files.read(alloc, name, FILE_BYTES) {
         Ok(bytes) => run_bytes(alloc, pairs, bytes.as_slice(), out),
         Err(fault) => say_fault(alloc, fault, Input::Script, name, out),
+    }
+}
+
+/// Reads a graph's file and then a script's, and runs the script over the graph.
+fn answer_run<F: Files, S: Sink>(
+    alloc: Global,
+    graph: &str,
+    script: &str,
+    files: &mut F,
+    out: &mut S,
+) -> Answer
+    ensures { Concludes (RunSays
+        (record { told = F.told files.old; faults = F.faults files.old; taken = F.taken files.old })
+        (record { told = F.told files.new; faults = F.faults files.new; taken = F.taken files.new }) graph.now script.now)
+        (S.written out.old) (S.written out.new) (S.faults out.old) (S.faults out.new) result }
+{
+    match files.read(alloc, graph, FILE_BYTES) {
+        Err(fault) => say_fault(alloc, fault, Input::Graph, graph, out),
+        Ok(bytes) => match read_graph(alloc, bytes.as_slice()) {
+            Err(_) => Answer::OutOfMemory,
+            Ok(None) => say(out, REFUSED, Answer::Refused),
+            Ok(Some(pairs)) => answer_script(alloc, script, pairs.as_slice(), files, out),
+        },
+    }
+}
+
+/// The names of the graph's and the script's file.
+fn names_of(words: &[String]) -> Option<(&str, &str)>
+    ensures some { IfSome result (λ p. AreRun (texts_of words.now) p.0.now p.1.now) }
+    ensures none { IfNone result ((g : List ℕ) (s : List ℕ) → AreRun (texts_of words.now) g s → ⊥) }
+{
+    match words {
+        [first, graph, script] => {
+            if first.as_str() == "run" {
+                Some((graph.as_str(), script.as_str()))
+            } else {
+                None
+            }
+        }
+        _ => None,
     }
 }

@@ -1,4 +1,5 @@
 pub mod AnswerLemmas
+pub mod CompleteLemmas
 pub mod FileLemmas
 pub mod FormLemmas
 pub mod GoodShapes

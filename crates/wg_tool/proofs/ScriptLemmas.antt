@@ -127,3 +127,16 @@ entries_left pairs rest after so_far es s form good some e (x ∷ xs) h all q =
 pub first_entry : (pairs : List Pair) (rest : List ℕ) (tail : List Sent) → rest ≢ [] → Each (IsGoodEntry pairs) tail → rest ≡ entry_lines pairs tail → (s : Sent) × (more : List ℕ) × IsGoodEntry pairs s × (rest ≡ line_of pairs s ++ more)
 first_entry pairs rest [] some all q = absurd (some q)
 first_entry pairs rest (x ∷ xs) some all q = (x, entry_lines pairs xs, all.0, q)
+
+entries_once : (pairs : List Pair) (es fs : List Sent) → IsFirstForm pairs → Each (IsGoodEntry pairs) es → Each (IsGoodEntry pairs) fs → entry_lines pairs es ≡ entry_lines pairs fs → es ≡ fs
+entries_once pairs [] [] form p q e = refl
+entries_once pairs [] (y ∷ fs) form p q e = absurd (cc)
+entries_once pairs (x ∷ es) [] form p q e = absurd (cc)
+entries_once pairs (x ∷ es) (y ∷ fs) form p q e =
+    let h = entry_once pairs x y (entry_lines pairs es) (entry_lines pairs fs) form p.0 q.0 e in
+    let t = entries_once pairs es fs form p.1 q.1 h.1 in
+    rw (h.0, t) refl
+
+-- one text has one list of entry records
+pub script_once : (pairs : List Pair) (es fs : List Sent) → IsFirstForm pairs → Each (IsGoodEntry pairs) es → Each (IsGoodEntry pairs) fs → script_text pairs es ≡ script_text pairs fs → es ≡ fs
+script_once pairs es fs form p q e = entries_once pairs es fs form p q (append_cancel_left SCRIPT_LINE.now _ _ e)

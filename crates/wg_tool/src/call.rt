@@ -1,114 +1,18 @@
 ghost use Rattle.std.specs.Prelude.{◌≡◌, List, ℕ, IfSome, IfNone};
+ghost use Rattle.wg_machine.specs.declared.launch.Sent.{Sent as Record};
+ghost use Rattle.wg_tool.specs.declared.pair.Pair.{Pair as Lines};
 ghost use Rattle.wg_tool.specs.Answers.{Concludes, status_of};
-ghost use Rattle.wg_tool.specs.FirstForm.{IsFirstForm};
-ghost use Rattle.wg_tool.specs.Headline.{AreRun, RunSays, texts_of};
-ghost use Rattle.wg_tool.specs.Running.{IsRunnable};
-ghost use Rattle.wg_tool.specs.Sending.{sender};
-ghost use Rattle.wg_tool.specs.Stages.{RanSays, ScriptSays, FileSays};
+ghost use Rattle.wg_tool.specs.Headline.{AreRun, Says, Headline, IsFineRun, Completes, texts_of};
 
-use crate::answer::{Answer, BAD_SCRIPT, Input, REFUSED};
-use crate::bodies::Senders;
-use crate::graph::read_graph;
-use crate::limits::FILE_BYTES;
-use crate::pair::Pair;
-use crate::print::{PrintFault, print_report};
-use crate::runs::run_script;
-use crate::say::{say, say_fault};
-use crate::script::read_script;
-use crate::senders::senders_of;
-use crate::wiring::targets_of;
+use crate::answer::{Answer, USAGE};
+use crate::say::say;
+use crate::stages::answer_run;
 use std::alloc::Global;
 use wg_io::{Files, Sink};
-use wg_journal::Done;
-use wg_machine::Entries;
 
-/// Runs entry records through a graph, and prints the report.
-fn run_entries<S: Sink>(
-    alloc: Global,
-    senders: &Senders,
-    entries: Entries,
-    out: &mut S,
-) -> Answer
-    requires { IsRunnable senders.now.shape entries }
-    ensures { Concludes (RanSays senders.now.shape (sender senders.now.targets senders.now.adds) entries) (S.written out.old) (S.written out.new) (S.faults out.old) (S.faults out.new) result }
-{
-    let Ok(report) = run_script(alloc, senders, entries) else {
-        return Answer::OutOfMemory;
-    };
-    let done = Done {
-        launches: report.entries.len() as u64,
-        records: report.records,
-        denied: report.denied,
-        peak: report.peak,
-        bytes: report.bytes,
-    };
-    match print_report(alloc, &senders.shape, report.entries.as_slice(), &done, out) {
-        Ok(()) => Answer::Done,
-        Err(PrintFault::Write) => Answer::WriteFault,
-        Err(PrintFault::Memory) => Answer::OutOfMemory,
-    }
-}
-
-/// Runs a script's bytes over a graph.
-fn run_bytes<S: Sink>(alloc: Global, pairs: &[Pair], script: &[u8], out: &mut S) -> Answer
-    requires { IsFirstForm pairs.now }
-    ensures { Concludes (ScriptSays pairs.now script.now) (S.written out.old) (S.written out.new) (S.faults out.old) (S.faults out.new) result }
-{
-    let Ok(targets) = targets_of(alloc, pairs) else {
-        return Answer::OutOfMemory;
-    };
-    match read_script(alloc, pairs, targets.as_slice(), script) {
-        Err(_) => Answer::OutOfMemory,
-        Ok(None) => say(out, BAD_SCRIPT, Answer::BadScript),
-        Ok(Some(entries)) => match senders_of(alloc, pairs, &targets) {
-            Err(_) => Answer::OutOfMemory,
-            Ok(senders) => run_entries(alloc, &senders, entries, out),
-        },
-    }
-}
-
-/// Reads a script's file, and runs its bytes over a graph.
-fn answer_script<F: Files, S: Sink>(
-    alloc: Global,
-    name: &str,
-    pairs: &[Pair],
-    files: &mut F,
-    out: &mut S,
-) -> Answer
-    requires { IsFirstForm pairs.now }
-    ensures { Concludes (FileSays
-        (record { told = F.told files.old; faults = F.faults files.old; taken = F.taken files.old })
-        (record { told = F.told files.new; faults = F.faults files.new; taken = F.taken files.new }) pairs.now name.now)
-        (S.written out.old) (S.written out.new) (S.faults out.old) (S.faults out.new) result }
-{
-    match files.read(alloc, name, FILE_BYTES) {
-        Ok(bytes) => run_bytes(alloc, pairs, bytes.as_slice(), out),
-        Err(fault) => say_fault(alloc, fault, Input::Script, name, out),
-    }
-}
-
-/// Reads a graph's file and then a script's, and runs the script over the graph.
-fn answer_run<F: Files, S: Sink>(
-    alloc: Global,
-    graph: &str,
-    script: &str,
-    files: &mut F,
-    out: &mut S,
-) -> Answer
-    ensures { Concludes (RunSays
-        (record { told = F.told files.old; faults = F.faults files.old; taken = F.taken files.old })
-        (record { told = F.told files.new; faults = F.faults files.new; taken = F.taken files.new }) graph.now script.now)
-        (S.written out.old) (S.written out.new) (S.faults out.old) (S.faults out.new) result }
-{
-    match files.read(alloc, graph, FILE_BYTES) {
-        Err(fault) => say_fault(alloc, fault, Input::Graph, graph, out),
-        Ok(bytes) => match read_graph(alloc, bytes.as_slice()) {
-            Err(_) => Answer::OutOfMemory,
-            Ok(None) => say(out, REFUSED, Answer::Refused),
-            Ok(Some(pairs)) => answer_script(alloc, script, pairs.as_slice(), files, out),
-        },
-    }
-}
+/// An exit status.
+#[derive(Clone, Copy, Debug, PartialEq, Eq)]
+pub struct Status(pub u8);
 
 /// The names of the graph's and the script's file.
 fn names_of(words: &[String]) -> Option<(&str, &str)>
@@ -125,4 +29,58 @@ fn names_of(words: &[String]) -> Option<(&str, &str)>
         }
         _ => None,
     }
+}
+
+/// Does what the words ask for.
+fn answer<F: Files, S: Sink>(alloc: Global, words: &[String], files: &mut F, out: &mut S) -> Answer
+    ensures { Concludes (Says (texts_of words.now)
+        (record { told = F.told files.old; faults = F.faults files.old; taken = F.taken files.old })
+        (record { told = F.told files.new; faults = F.faults files.new; taken = F.taken files.new }))
+        (S.written out.old) (S.written out.new) (S.faults out.old) (S.faults out.new) result }
+{
+    match names_of(words) {
+        Some((graph, script)) => answer_run(alloc, graph, script, files, out),
+        None => say(out, USAGE, Answer::Usage),
+    }
+}
+
+fn number_of(answer: Answer) -> u8
+    ensures { result ≡ status_of answer }
+{
+    match answer {
+        Answer::Done => 0,
+        Answer::Refused => 1,
+        Answer::Usage => 2,
+        Answer::BadScript => 3,
+        Answer::ReadFault { input: _ } => 6,
+        Answer::WriteFault => 7,
+        Answer::OutOfMemory => 8,
+        Answer::TooLong { input: _ } => 10,
+    }
+}
+
+/// Does what the words of a command line ask for, with the files and the sink that are handed in, and gives the exit
+/// status.
+///
+/// `run GRAPH SCRIPT` reads a graph and a script of the first form, runs the script over the graph with one worker,
+/// and prints the report of the run.
+pub fn steady<F: Files, S: Sink>(
+    alloc: Global,
+    words: &[String],
+    files: &mut F,
+    out: &mut S,
+) -> Status
+    ensures headline { Headline (texts_of words.now)
+        (record { told = F.told files.old; faults = F.faults files.old; taken = F.taken files.old })
+        (record { told = F.told files.new; faults = F.faults files.new; taken = F.taken files.new })
+        (record { written = S.written out.old; faults = S.faults out.old })
+        (record { written = S.written out.new; faults = S.faults out.new }) result.0 }
+    ensures complete { (pairs : List Lines) (entries : List Record) → IsFineRun (texts_of words.now)
+        (record { told = F.told files.old; faults = F.faults files.old; taken = F.taken files.old })
+        (record { told = F.told files.new; faults = F.faults files.new; taken = F.taken files.new })
+        (record { written = S.written out.old; faults = S.faults out.old })
+        (record { written = S.written out.new; faults = S.faults out.new }) pairs entries
+        → Completes (record { written = S.written out.old; faults = S.faults out.old }) (record { written = S.written out.new; faults = S.faults out.new }) pairs entries result.0 }
+{
+    Status(number_of(answer(alloc, words, files, out)))
 }

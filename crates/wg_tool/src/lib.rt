@@ -15,7 +15,10 @@ mod say;
 mod script;
 mod senders;
 mod sending;
+mod stages;
 mod wiring;
 mod write;
 
+pub use answer::{Answer, Input};
+pub use call::{Status, steady};
 pub use pair::{Pair, Pairs, Sends};

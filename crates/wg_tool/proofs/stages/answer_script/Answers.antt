@@ -6,7 +6,7 @@ use Rattle.wg_tool.specs.Headline.{FilesView}
 use Rattle.wg_tool.specs.Stages.{ScriptSays, FileSays, FaultSays}
 use Rattle.wg_tool.proofs.AnswerLemmas.{lifted}
 use Rattle.wg_tool.proofs.FileLemmas.{file_read, file_fault, told_more, FaultShows}
-use Rattle.wg_tool.proofs.call.answer_script.Goals as goal
+use Rattle.wg_tool.proofs.stages.answer_script.Goals as goal
 
 pub returns-in-Ok : goal.returns-in-Ok
 returns-in-Ok g c =

@@ -1,7 +1,7 @@
 use Rattle.std.proofs.Common.{◌≡◌, inr}
 use Rattle.wg_tool.specs.Sending.{sender}
 use Rattle.wg_tool.proofs.StageLemmas.{report_begun}
-use Rattle.wg_tool.proofs.call.run_entries.Goals as goal
+use Rattle.wg_tool.proofs.stages.run_entries.Goals as goal
 
 pub returns : goal.returns
 returns g c =

@@ -5,7 +5,7 @@ use Rattle.wg_tool.specs.Sending.{sender}
 use Rattle.wg_tool.specs.Stages.{RanSays, ScriptSays}
 use Rattle.wg_tool.proofs.AnswerLemmas.{told, lifted}
 use Rattle.wg_tool.proofs.StageLemmas.{ran_script}
-use Rattle.wg_tool.proofs.call.run_bytes.Goals as goal
+use Rattle.wg_tool.proofs.stages.run_bytes.Goals as goal
 
 pub returns-in-Ok-None : goal.returns-in-Ok-None
 returns-in-Ok-None g c =

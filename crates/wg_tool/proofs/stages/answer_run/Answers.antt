@@ -10,7 +10,7 @@ use Rattle.wg_tool.specs.Headline.{FilesView, RunSays, IsGraph}
 use Rattle.wg_tool.specs.Stages.{FileSays, FaultSays}
 use Rattle.wg_tool.proofs.AnswerLemmas.{told, lifted}
 use Rattle.wg_tool.proofs.FileLemmas.{graph_read, graph_fault, told_once, told_more, FaultShows, ReadOnce}
-use Rattle.wg_tool.proofs.call.answer_run.Goals as goal
+use Rattle.wg_tool.proofs.stages.answer_run.Goals as goal
 
 pub returns-in-Err : goal.returns-in-Err
 returns-in-Err g c =

@@ -81,9 +81,11 @@ graph_read old mid new graph script bytes pairs once same is Done t h =
     told_once (old.told graph) bytes (λ (g : List ℕ). IfSome (old.told script) (λ (s : List ℕ). Reports g s t)) same
     (told_more (old.told script) (λ (s : List ℕ). ReportsScript pairs s t) (λ (s : List ℕ). Reports bytes s t) (λ s r. record { pairs = pairs; is_graph = is; report = r }) second)
 graph_read old mid new graph script bytes pairs once same is BadScript t h =
-    let second : IfSome (old.told script) (IsNoScript pairs) = subst (λ (o : Option (List ℕ)). IfSome o (IsNoScript pairs)) (once.same script) h.0 in
-    (told_once (old.told graph) bytes (λ (g : List ℕ). IfSome (old.told script) (λ (s : List ℕ). IsBadScript g s)) same
-      (told_more (old.told script) (IsNoScript pairs) (λ (s : List ℕ). IsBadScript bytes s) (λ s n. record { pairs = pairs; is_graph = is; none = n }) second), h.1)
+    let second : IfSome (old.told script) (IsNoScript pairs) = subst (λ (o : Option (List ℕ)). IfSome o (IsNoScript pairs)) (once.same script) h.0 in (
+      told_once (old.told graph) bytes (λ (g : List ℕ). IfSome (old.told script) (λ (s : List ℕ). IsBadScript g s)) same
+          (told_more (old.told script) (IsNoScript pairs) (λ (s : List ℕ). IsBadScript bytes s) (λ s n. record { pairs = pairs; is_graph = is; none = n }) second),
+      h.1,
+    )
 graph_read old mid new graph script bytes pairs once same is (ReadFault i) t h =
     let says : RunSays old new graph script (ReadFault input.Script) t =
     record { reached = told_once (old.told graph) bytes (λ (b : List ℕ). (ps : List Pair) × IsGraph b ps) same (pairs, is); rose = rose_after 0 (old.faults script) (mid.faults script) (new.faults script) (once.faults script) h.1; line = h.2 } in

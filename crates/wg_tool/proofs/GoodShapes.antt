@@ -84,13 +84,15 @@ good_target nodes ts k d t o later at words e =
 
 good_outputs : (nodes : List NodeName) (ts : List (Option ℕ)) (k d : ℕ) (t : Option ℕ) → IsTrue (are_later (length ts) 0 ts) → slice_get ts k ≡ Some t → slice_get (units_of ts) k ≡ Some (unit_of ts k d t) → Each (IsGoodOutput (wired nodes ts) (unit_of ts k d t)) (outputs_of t)
 good_outputs nodes ts k d None later at e = tt
-good_outputs nodes ts k d (Some t) later at e =
-    (record {
-      budget = omega arith;
-      words = omega arith;
-      count = record { low = omega arith; high = omega arith };
-      elements = (good_target nodes ts k d t (record { budget = 0; words = 1; elements = Some t ∷ [] }) later at refl e, tt);
-    }, tt)
+good_outputs nodes ts k d (Some t) later at e = (
+  record {
+    budget = omega arith;
+    words = omega arith;
+    count = record { low = omega arith; high = omega arith };
+    elements = (good_target nodes ts k d t (record { budget = 0; words = 1; elements = Some t ∷ [] }) later at refl e, tt);
+  },
+  tt,
+)
 
 good_budgets : (t : Option ℕ) → Each (IsBetween 1 256) (budgets_of t)
 good_budgets None = tt
@@ -165,6 +167,7 @@ targets_later n k (p ∷ pairs) e =
     found : (name : List ℕ) (o : Option ℕ) → position (is_named name) pairs ≡ o → IsTrue (goes_later n k (option_map (λ i. k + 1 + i) o))
     found name None h = refl
     found name (Some i) h = let s = (position-Some (is_named name) pairs i p h).0 in both_and (nat_lt k (k + 1 + i)) (nat_lt (k + 1 + i) n) (grind (arith, nat_tests)) (grind (arith, nat_tests))
+
     goes : (s : Option Sends) → IsTrue (goes_later n k (target_in (k + 1) s pairs))
     goes None = refl
     goes (Some s) = found s.target (position (is_named s.target) pairs) refl

@@ -54,10 +54,7 @@ fn read_sending<'a>(
 }
 
 /// A pair of lines, and what follows it.
-fn read_pair<'a>(
-    alloc: Global,
-    bytes: &'a [u8],
-) -> Result<Option<(Pair, &'a [u8])>, AllocError>
+fn read_pair<'a>(alloc: Global, bytes: &'a [u8]) -> Result<Option<(Pair, &'a [u8])>, AllocError>
     ensures found { IfOk result (λ o. IfSome o (λ x. IsGoodPair x.0 × (bytes.now ≡ pair_text x.0 ++ x.1.now))) }
     ensures none { IfOk result (λ o. IfNone o ((p : Lines) (more : List ℕ) → IsGoodPair p → bytes.now ≢ pair_text p ++ more)) }
 {

@@ -22,3 +22,6 @@ mod write;
 pub use answer::{Answer, Input};
 pub use call::{Status, steady};
 pub use pair::{Pair, Pairs, Sends};
+
+#[cfg(test)]
+mod tests;

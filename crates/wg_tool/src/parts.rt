@@ -56,10 +56,7 @@ fn value_of(bytes: &[u8]) -> u64
 }
 
 /// A decimal word without a leading zero that no further digit continues, and what follows it.
-pub fn read_word<'a>(
-    alloc: Global,
-    bytes: &'a [u8],
-) -> Result<Option<(u32, &'a [u8])>, AllocError>
+pub fn read_word<'a>(alloc: Global, bytes: &'a [u8]) -> Result<Option<(u32, &'a [u8])>, AllocError>
     ensures found { IfOk result (λ o. IfSome o (λ x. bytes.now ≡ decimal x.0 ++ x.1.now)) }
     ensures only { IfOk result (λ o. IfSome o (λ x. (word : ℕ) (more : List ℕ) → word < 2 ^ 32 → IsTrue (ends_number more) → bytes.now ≡ decimal word ++ more → word ≡ x.0)) }
     ensures none { IfOk result (λ o. IfNone o ((word : ℕ) (more : List ℕ) → word < 2 ^ 32 → IsTrue (ends_number more) → bytes.now ≢ decimal word ++ more)) }

@@ -29,7 +29,8 @@ fn settle(senders: &Senders, core: &mut Core, ticket: u64) -> Result<(), AllocEr
     match core.settle(senders, ticket) {
         Settled::Redone => Ok(()),
         Settled::Memory => Err(AllocError),
-        Settled::Kept | Settled::TurnsSpent(_) | Settled::NotOut | Settled::Stopped => unreachable!(),
+        Settled::Kept | Settled::TurnsSpent(_) | Settled::NotOut | Settled::Stopped =>
+            unreachable!(),
     }
 }
 

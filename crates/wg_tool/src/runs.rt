@@ -16,11 +16,7 @@ use wg_machine::{
 use wg_words::TryCopy;
 
 /// Runs a script to its end.
-pub fn run_script(
-    alloc: Global,
-    senders: &Senders,
-    entries: Entries,
-) -> Result<Report, AllocError>
+pub fn run_script(alloc: Global, senders: &Senders, entries: Entries) -> Result<Report, AllocError>
     requires { IsRunnable senders.now.shape entries }
     ensures report { IfOk result (λ r. IsReport senders.now.shape (sender senders.now.targets senders.now.adds) entries (report_text senders.now.shape r.entries (done_in r))) }
     ensures outs { IfOk result (λ r. Each (λ (e : Line). e.first_out + e.outs ≤ 2 ^ 64) r.entries) }

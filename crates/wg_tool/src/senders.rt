@@ -11,11 +11,7 @@ use std::alloc::{AllocError, Global};
 use wg_machine::Targets;
 
 /// The bodies of a graph of the first form.
-pub fn senders_of(
-    alloc: Global,
-    pairs: &[Pair],
-    targets: &Targets,
-) -> Result<Senders, AllocError>
+pub fn senders_of(alloc: Global, pairs: &[Pair], targets: &Targets) -> Result<Senders, AllocError>
     requires form { IsFirstForm pairs.now }
     requires targets { targets.now ≡ targets_of pairs.now }
     ensures shape { IfOk result (λ senders. senders.shape ≡ shape_of pairs.now) }

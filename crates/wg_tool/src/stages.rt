@@ -22,12 +22,7 @@ use wg_journal::Done;
 use wg_machine::Entries;
 
 /// Runs entry records through a graph, and prints the report.
-fn run_entries<S: Sink>(
-    alloc: Global,
-    senders: &Senders,
-    entries: Entries,
-    out: &mut S,
-) -> Answer
+fn run_entries<S: Sink>(alloc: Global, senders: &Senders, entries: Entries, out: &mut S) -> Answer
     requires { IsRunnable senders.now.shape entries }
     ensures { Concludes (RanSays senders.now.shape (sender senders.now.targets senders.now.adds) entries) (S.written out.old) (S.written out.new) (S.faults out.old) (S.faults out.new) result }
 {

@@ -10,9 +10,7 @@ ghost use Rattle.wg_tool.specs.Wiring.{target_in, targets_of, is_free, budgets_o
 
 use crate::pair::{Pair, Sends};
 use std::alloc::{AllocError, Global};
-use wg_machine::{
-    Kind, NodeName, NodeNames, Output, Outputs, Shape, Targets, Unit, Units,
-};
+use wg_machine::{Kind, NodeName, NodeNames, Output, Outputs, Shape, Targets, Unit, Units};
 use wg_words::{Items, Names, TryCopy, Words};
 
 /// The place of the first pair of a name.
@@ -169,11 +167,7 @@ fn nodes_of(alloc: Global, pairs: &[Pair]) -> Result<NodeNames, AllocError>
 }
 
 /// The shape of a graph, from its pairs and their targets.
-pub fn shape_of(
-    alloc: Global,
-    pairs: &[Pair],
-    targets: &[Option<u32>],
-) -> Result<Shape, AllocError>
+pub fn shape_of(alloc: Global, pairs: &[Pair], targets: &[Option<u32>]) -> Result<Shape, AllocError>
     requires few { length targets.now ≤ 32 }
     requires targets { targets.now ≡ targets_of pairs.now }
     ensures { IfOk result (λ shape. shape ≡ shape_of pairs.now) }

@@ -18,6 +18,9 @@ loop-place-preserved g c =
     let line : c.as_slice.result.now ≡ launch_line c.args.shape.now c.loop-place.place e = c.as_slice.ensures.value ∙ c.in-Ok.ensures in
     record {
       later = omega (arith, c.loop-place.invariant.later, c.in-Ok-write_all.ensures.later);
-      front = (k.0 ++ launch_line c.args.shape.now c.loop-place.place e, lines_step c.args.shape.now c.args.entries.now c.loop-place.place k.0 e c.loop-place-test.true c.index-entries-place.is k.1,
-        appends_more _ _ _ k.0 (launch_line c.args.shape.now c.loop-place.place e) k.2 (subst (λ (t : List ℕ). Appends (g.S.Sink.written c.loop-place.out) (g.S.Sink.written c.write_all.new.out) t) line c.in-Ok-write_all.ensures.whole));
+      front = (
+        k.0 ++ launch_line c.args.shape.now c.loop-place.place e,
+        lines_step c.args.shape.now c.args.entries.now c.loop-place.place k.0 e c.loop-place-test.true c.index-entries-place.is k.1,
+        appends_more _ _ _ k.0 (launch_line c.args.shape.now c.loop-place.place e) k.2 (subst (λ (t : List ℕ). Appends (g.S.Sink.written c.loop-place.out) (g.S.Sink.written c.write_all.new.out) t) line c.in-Ok-write_all.ensures.whole),
+      );
     }

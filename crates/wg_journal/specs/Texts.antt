@@ -1,28 +1,18 @@
-<<<<<<< HEAD
 -- The report as a text: one line a launch, then how the run ended. Its format is this project's own.
 use Rattle.std.specs.Prelude.{ℕ, ◌+◌, List, [], ◌∷◌, ◌++◌, Option, Some, None, slice_get, unwrap_or, codes}
 use Rattle.std.specs.Option.{option_map}
 use Rattle.std.specs.List.{flat_map, range_with_len}
-=======
--- The report's lines. Its format is this project's own.
-use Rattle.std.specs.Prelude.{ℕ, ◌+◌, List, [], ◌∷◌, ◌++◌, slice_get, unwrap_or, codes}
-use Rattle.std.specs.Option.{option_map}
-use Rattle.std.specs.List.{range_with_len}
->>>>>>> 79f6cb5c2e459edc89ecc57c987b7b53aac3f5e9
 use Rattle.std.specs.Fmt.{decimal}
 use Rattle.wg_machine.specs.declared.shape.Shape.{Shape}
 use Rattle.wg_machine.specs.declared.shape.Unit.{Unit}
 use Rattle.wg_machine.specs.declared.shape.NodeName.{NodeName}
 use Rattle.wg_machine.specs.declared.launch.Entry.{Entry}
 use Rattle.wg_journal.specs.declared.journal.Done.{Done}
-<<<<<<< HEAD
 use Rattle.wg_journal.specs.declared.journal.BufferLine.{BufferLine}
 use Rattle.wg_journal.specs.declared.journal.Stop.{Stop}
 use Rattle.wg_journal.specs.declared.journal.Stop.TheVariants.{Turns, Launches}
 use Rattle.wg_journal.specs.declared.journal.Tail.{Tail}
 use Rattle.wg_journal.specs.declared.journal.Journal.{Journal}
-=======
->>>>>>> 79f6cb5c2e459edc89ecc57c987b7b53aac3f5e9
 
 -- a space and a number in decimal
 abbrev pub spaced : ℕ → List ℕ
@@ -57,7 +47,6 @@ abbrev pub done_line : Done → List ℕ
 done_line d =
     codes "done launches" ++ spaced d.launches ++ codes " records" ++ spaced d.records ++ codes " denied" ++ spaced d.denied
     ++ codes " peak" ++ spaced d.peak ++ codes " of" ++ spaced d.bytes ++ codes "\n"
-<<<<<<< HEAD
 
 -- a buffer of a complete run: `buffer NAME COUNT` and its words
 abbrev pub buffer_line : BufferLine → List ℕ
@@ -89,5 +78,3 @@ tail_text shape t = perhaps done_line t.done ++ flat_map buffer_line t.buffers +
 -- the whole report
 abbrev pub report_text : Shape → Journal → List ℕ
 report_text shape j = launch_lines shape 0 j.entries ++ tail_text shape j.tail
-=======
->>>>>>> 79f6cb5c2e459edc89ecc57c987b7b53aac3f5e9

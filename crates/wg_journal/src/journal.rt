@@ -1,4 +1,3 @@
-<<<<<<< HEAD
 ghost use Rattle.std.specs.Prelude.{◌≡◌};
 ghost use Rattle.wg_journal.specs.declared.journal.JournalFault.TheVariants.{Memory};
 
@@ -23,8 +22,6 @@ pub struct Tail {
     pub stop: Option<Stop>,
 }
 
-=======
->>>>>>> 79f6cb5c2e459edc89ecc57c987b7b53aac3f5e9
 /// What the last launch line of a complete run is followed by.
 ///
 /// `launches` counts the launches, `records` the records that came to be, `denied` the requests of at least 1 that
@@ -37,7 +34,6 @@ pub struct Done {
     pub peak: u64,
     pub bytes: u64,
 }
-<<<<<<< HEAD
 
 /// A shared buffer as a report tells it: its name, its count of words, and the words that the line has.
 #[derive(Debug, Drop)]
@@ -76,5 +72,3 @@ impl From<AllocError> for JournalFault {
         JournalFault::Memory
     }
 }
-=======
->>>>>>> 79f6cb5c2e459edc89ecc57c987b7b53aac3f5e9

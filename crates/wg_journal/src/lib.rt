@@ -1,7 +1,6 @@
 //! The journal of a run, and its report as a text, both ways.
 #![tactic(auto)]
 
-<<<<<<< HEAD
 mod fields;
 mod journal;
 mod lines;
@@ -17,11 +16,3 @@ pub use write::{done_text, line, print, stop_text};
 
 #[cfg(test)]
 mod tests;
-=======
-mod journal;
-mod write;
-
-pub use journal::Done;
-pub use wg_machine::Entry;
-pub use write::{done_text, line};
->>>>>>> 79f6cb5c2e459edc89ecc57c987b7b53aac3f5e9

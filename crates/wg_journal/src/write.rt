@@ -1,6 +1,5 @@
 ghost use Rattle.std.specs.Prelude.{◌≡◌, ◌≤◌, ◌<◌, ◌+◌, ◌^◌, ◌++◌, codes, OnOk, IfOk};
 ghost use Rattle.std.specs.Fmt.{decimal};
-<<<<<<< HEAD
 ghost use Rattle.std.specs.List.{flat_map, range_with_len};
 ghost use Rattle.wg_words.specs.Each.{Each};
 ghost use Rattle.wg_machine.specs.declared.launch.Entry.{Entry as Launched};
@@ -8,12 +7,6 @@ ghost use Rattle.wg_journal.specs.Names.{index_at};
 ghost use Rattle.wg_journal.specs.Texts.{spaced, all_spaced, unit_at, launch_line, done_line, buffer_line, turns_line, launches_line, stop_line, perhaps, tail_text, report_text};
 
 use crate::{BufferLine, Done, Journal, Stop, Tail};
-=======
-ghost use Rattle.std.specs.List.{range_with_len};
-ghost use Rattle.wg_journal.specs.Texts.{spaced, all_spaced, unit_at, launch_line, done_line};
-
-use crate::Done;
->>>>>>> 79f6cb5c2e459edc89ecc57c987b7b53aac3f5e9
 use std::alloc::{AllocError, Global};
 use wg_machine::{Entry, Shape};
 
@@ -27,11 +20,7 @@ fn push_number(alloc: Global, line: &mut Vec<u8>, n: u64) -> Result<(), AllocErr
 fn push_spaced(alloc: Global, line: &mut Vec<u8>, n: u64) -> Result<(), AllocError>
     ensures { OnOk result (line.new.items ≡ line.old.items ++ spaced n) }
 {
-<<<<<<< HEAD
     line.push(b' ')?;
-=======
-    line.extend_from_slice(b" ")?;
->>>>>>> 79f6cb5c2e459edc89ecc57c987b7b53aac3f5e9
     push_number(alloc, line, n)
 }
 
@@ -64,7 +53,6 @@ fn push_outs(alloc: Global, line: &mut Vec<u8>, first: u64, count: u32) -> Resul
     Ok(())
 }
 
-<<<<<<< HEAD
 pub(crate) fn push_unit(
     alloc: Global,
     line: &mut Vec<u8>,
@@ -73,10 +61,6 @@ pub(crate) fn push_unit(
 ) -> Result<(), AllocError>
     ensures text { OnOk result (line.new.items ≡ line.old.items ++ unit_at shape.now unit) }
     ensures index { OnOk result (index_at shape.now unit < 2 ^ 64) }
-=======
-fn push_unit(alloc: Global, line: &mut Vec<u8>, shape: &Shape, unit: u32) -> Result<(), AllocError>
-    ensures { OnOk result (line.new.items ≡ line.old.items ++ unit_at shape.now unit) }
->>>>>>> 79f6cb5c2e459edc89ecc57c987b7b53aac3f5e9
 {
     let Some(node) = shape.units.get(unit as usize) else {
         return Ok(());
@@ -130,7 +114,6 @@ pub fn done_text(alloc: Global, done: &Done) -> Result<Vec<u8>, AllocError>
     line.extend_from_slice(b"\n")?;
     Ok(line)
 }
-<<<<<<< HEAD
 
 fn push_buffer(alloc: Global, text: &mut Vec<u8>, buffer: &BufferLine) -> Result<(), AllocError>
     ensures { OnOk result (text.new.items ≡ text.old.items ++ buffer_line buffer.now) }
@@ -239,5 +222,3 @@ pub fn print(alloc: Global, journal: &Journal, shape: &Shape) -> Result<Vec<u8>,
     push_tail(alloc, &mut text, &journal.tail, shape)?;
     Ok(text)
 }
-=======
->>>>>>> 79f6cb5c2e459edc89ecc57c987b7b53aac3f5e9

@@ -144,24 +144,6 @@ fn other_graphs_are_refused(rt: HostRuntime) -> Result<(), Fail> {
     Ok(())
 }
 
-<<<<<<< HEAD
-#[test]
-fn other_words_are_usage(rt: HostRuntime) -> Result<(), Fail> {
-    let alloc = rt.alloc();
-    for texts in [
-        ["dance"].as_slice(),
-        ["run", "g"].as_slice(),
-        ["run", "g", "s", "s"].as_slice(),
-        [].as_slice(),
-    ] {
-        let mut files = files(alloc, LEAF.as_bytes(), Vec::new(alloc), &[])?;
-        let mut out = MemSink::new(alloc, Vec::new(alloc));
-        let words = words(alloc, texts)?;
-        let status = steady(alloc, words.as_slice(), &mut files, &mut out);
-        assert_eq!(rt; status, Status(2));
-        assert_eq!(rt; out.bytes(), USAGE.as_bytes());
-    }
-=======
 fn check_usage<R: Abort>(rt: &R, alloc: Global, texts: &[&str]) -> Result<(), AllocError> {
     let mut files = files(alloc, LEAF.as_bytes(), Vec::new(alloc), &[])?;
     let mut out = MemSink::new(alloc, Vec::new(alloc));
@@ -179,7 +161,6 @@ fn other_words_are_usage(rt: HostRuntime) -> Result<(), Fail> {
     check_usage(&rt, alloc, &["run", "g"])?;
     check_usage(&rt, alloc, &["run", "g", "s", "s"])?;
     check_usage(&rt, alloc, &[])?;
->>>>>>> 79f6cb5c2e459edc89ecc57c987b7b53aac3f5e9
     Ok(())
 }
 

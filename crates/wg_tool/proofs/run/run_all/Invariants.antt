@@ -1,4 +1,4 @@
-use Rattle.std.proofs.Common.{◌≡◌, ◌-◌, [], List, length}
+use Rattle.std.proofs.Common.{◌-◌, [], List, length}
 use Rattle.wg_machine.specs.declared.launch.Sent.{Sent}
 use Rattle.wg_core.specs.Standing.{StandsFor}
 use Rattle.wg_tool.specs.Running.{KeepsPlan, IsReady, StandsShort}

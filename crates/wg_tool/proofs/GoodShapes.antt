@@ -25,7 +25,8 @@ use Rattle.wg_tool.specs.Wiring.{unit_of, later_units, units_of, goes_later, are
 use Rattle.wg_tool.specs.Sending.{target_at}
 use Rattle.wg_tool.specs.SenderLaws.{SendsTo, IsWired}
 use Rattle.wg_tool.proofs.FormLemmas.{true_is_not_false}
-use Rattle.wg_tool.proofs.ShapeLemmas.{and_both, both_and, unit_sends, are_deep, deep_at, unit_at, length_units, deeper_than, later_at, shallow_units}
+use Rattle.wg_tool.proofs.PartLemmas.{and_both, both_and}
+use Rattle.wg_tool.proofs.ShapeLemmas.{unit_sends, are_deep, deep_at, unit_at, length_units, deeper_than, later_at, shallow_units}
 
 -- a shape of these units
 abbrev pub wired : List NodeName → List (Option ℕ) → Shape

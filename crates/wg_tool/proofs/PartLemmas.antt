@@ -78,11 +78,11 @@ lower_is (c ∷ a) b p q = choice (is_ascii_lowercase c) refl (lower_is a b)
     choice true e h = let rest : IsTrue (list_all is_ascii_lowercase a) = rw e at p in rw e (omega (arith, h rest q))
     choice false e h = let no : false ≡ true = rw e at p in absurd (cc)
 
-and_both : (a b : Bool) → IsTrue (a && b) → IsTrue a × IsTrue b
+pub and_both : (a b : Bool) → IsTrue (a && b) → IsTrue a × IsTrue b
 and_both true b h = (refl, h)
 and_both false b h = absurd (cc)
 
-both_and : (a b : Bool) → IsTrue a → IsTrue b → IsTrue (a && b)
+pub both_and : (a b : Bool) → IsTrue a → IsTrue b → IsTrue (a && b)
 both_and true b p q = q
 both_and false b p q = absurd (cc)
 

@@ -9,15 +9,8 @@ use Rattle.wg_words.specs.Each.{Each}
 use Rattle.wg_machine.specs.declared.shape.Unit.{Unit}
 use Rattle.wg_machine.specs.Need.{is_target, greatest}
 use Rattle.wg_machine.specs.Unrolling.{sends_to, depth_of}
+use Rattle.wg_tool.proofs.PartLemmas.{and_both}
 use Rattle.wg_tool.specs.Wiring.{unit_of, later_units, units_of, goes_later, are_later}
-
-pub and_both : (a b : Bool) → IsTrue (a && b) → IsTrue a × IsTrue b
-and_both true b h = (refl, h)
-and_both false b h = absurd (cc)
-
-pub both_and : (a b : Bool) → IsTrue a → IsTrue b → IsTrue (a && b)
-both_and true b p q = q
-both_and false b p q = absurd (cc)
 
 -- no depth is above a number
 abbrev pub AreShallow : ℕ → List Unit → Type 0

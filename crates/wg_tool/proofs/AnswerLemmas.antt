@@ -1,11 +1,9 @@
 -- From what is told to what an answer concludes.
-use Rattle.std.proofs.Common.{◌≡◌, ℕ, ◌+◌, ◌<◌, ◌≤◌, List, [], ◌∷◌, ◌++◌, length, Option, Some, None, refl, ap, sym, ◌∙◌, subst, arith, inl, inr}
-use Rattle.std.specs.Prelude.{◌⊎◌, IfSome}
-use Rattle.wg_io.specs.Causes.{Appends, Rose, RoseBeyond}
-use Rattle.wg_io.specs.Counts.{last_count}
+use Rattle.std.proofs.Common.{ℕ, List, Option, sym, subst, inl, inr}
+use Rattle.wg_io.specs.Causes.{Appends}
 use Rattle.wg_tool.specs.declared.answer.Answer.{Answer}
 use Rattle.wg_tool.specs.declared.answer.Answer.TheVariants.{Done, Refused, Usage, BadScript, ReadFault, WriteFault, OutOfMemory, TooLong}
-use Rattle.wg_tool.specs.Answers.{AppendsFront, BeginsText, Concludes, Tells}
+use Rattle.wg_tool.specs.Answers.{Concludes, Tells}
 
 -- an answer with a text of its own
 abbrev pub IsPrinted : Answer → Type 0

@@ -1,17 +1,15 @@
 -- Where nothing fails, the whole report is written.
-use Rattle.std.proofs.Common.{◌≡◌, ℕ, ◌+◌, ◌<◌, ◌≤◌, List, [], ◌∷◌, ◌++◌, length, Option, Some, None, refl, ap, sym, ◌∙◌, subst, arith, inl, inr, drop}
-use Rattle.std.specs.Prelude.{◌⊎◌, IfSome, codes}
-use Rattle.wg_io.specs.Causes.{Appends, Rose}
+use Rattle.std.proofs.Common.{◌≡◌, ℕ, ◌<◌, List, [], ◌∷◌, length, Option, Some, refl, ap, sym, ◌∙◌, subst, arith, inl, inr, drop}
+use Rattle.std.specs.Prelude.{IfSome, codes}
 use Rattle.wg_machine.specs.declared.launch.Sent.{Sent}
 use Rattle.wg_tool.specs.declared.answer.Answer.{Answer}
 use Rattle.wg_tool.specs.declared.answer.Answer.TheVariants.{Done, Refused, Usage, BadScript, ReadFault, WriteFault, OutOfMemory, TooLong}
-use Rattle.wg_tool.specs.declared.answer.Input.{Input}
 use Rattle.wg_tool.specs.declared.answer.Input.TheVariants as input
 use Rattle.wg_tool.specs.declared.limits.TheConstants.{FILE_BYTES}
 use Rattle.wg_tool.specs.declared.pair.Pair.{Pair}
 use Rattle.wg_tool.specs.Answers.{Concludes, status_of}
 use Rattle.wg_tool.specs.FirstForm.{graph_text, IsFirstForm, IsNoGraph}
-use Rattle.wg_tool.specs.Headline.{FilesView, SinkView, AreRun, IsGraph, Reports, IsBadScript, OfBoth, RunSays, Says, Headline, IsFineRun, Completes}
+use Rattle.wg_tool.specs.Headline.{FilesView, SinkView, AreRun, Reports, IsBadScript, OfBoth, RunSays, Says, Headline, IsFineRun, Completes}
 use Rattle.wg_tool.specs.Report.{IsReport}
 use Rattle.wg_tool.specs.Script.{script_text, IsScript}
 use Rattle.wg_tool.specs.Sending.{made_of}

@@ -1,19 +1,16 @@
 -- From what was read of the files to what the call says.
-use Rattle.std.proofs.Common.{◌≡◌, ℕ, ◌+◌, ◌<◌, ◌≤◌, List, [], ◌∷◌, ◌++◌, length, Option, Some, None, refl, ap, sym, ◌∙◌, subst, arith, inl, inr, get_or}
-use Rattle.std.specs.Prelude.{◌⊎◌, IfSome, ⊤}
+use Rattle.std.proofs.Common.{◌≡◌, ℕ, ◌<◌, ◌≤◌, List, [], ◌∷◌, length, Option, Some, None, refl, ap, sym, ◌∙◌, subst, arith, get_or}
+use Rattle.std.specs.Prelude.{IfSome}
 use Rattle.wg_io.specs.declared.files.FileFault.{FileFault}
 use Rattle.wg_io.specs.declared.files.FileFault.TheVariants as fault
 use Rattle.wg_io.specs.Causes.{Rose, RoseBeyond, NoneFalls}
-use Rattle.wg_io.specs.Counts.{last_count}
 use Rattle.wg_tool.specs.declared.answer.Answer.{Answer}
 use Rattle.wg_tool.specs.declared.answer.Answer.TheVariants.{Done, Refused, Usage, BadScript, ReadFault, WriteFault, OutOfMemory, TooLong}
 use Rattle.wg_tool.specs.declared.answer.Input.{Input}
 use Rattle.wg_tool.specs.declared.answer.Input.TheVariants as input
-use Rattle.wg_tool.specs.declared.answer.TheConstants.{BAD_SCRIPT, REFUSED}
 use Rattle.wg_tool.specs.declared.limits.TheConstants.{FILE_BYTES}
 use Rattle.wg_tool.specs.declared.pair.Pair.{Pair}
-use Rattle.wg_tool.specs.FirstForm.{graph_text, IsFirstForm, IsNoGraph}
-use Rattle.wg_tool.specs.Headline.{FilesView, IsGraph, Reports, ReportsScript, IsBadScript, RunSays, SaysReadFault, SaysTooLong, read_fault_line, too_long_line}
+use Rattle.wg_tool.specs.Headline.{FilesView, IsGraph, Reports, ReportsScript, IsBadScript, RunSays, too_long_line}
 use Rattle.wg_tool.specs.Script.{IsNoScript}
 use Rattle.wg_tool.specs.Stages.{FaultSays, ScriptSays, FileSays}
 

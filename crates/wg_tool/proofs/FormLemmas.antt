@@ -1,5 +1,5 @@
 -- A text of the first form is one list of pairs.
-use Rattle.std.proofs.Common.{◌≡◌, ◌≢◌, ℕ, ◌+◌, ◌^◌, ◌<◌, ◌≤◌, Bool, true, false, List, [], ◌∷◌, ◌++◌, length, get_or, Option, Some, None, refl, ap, sym, ◌∙◌, subst, arith, append_assoc}
+use Rattle.std.proofs.Common.{◌≡◌, ◌≢◌, ℕ, ◌^◌, ◌<◌, true, false, List, [], ◌∷◌, ◌++◌, get_or, Option, Some, None, refl, ap, sym, ◌∙◌, subst, append_assoc}
 use Rattle.std.specs.Prelude.{IsTrue, ◌==◌}
 use Rattle.std.specs.Fmt.{decimal}
 use Rattle.std.proofs.lemmas.List.{append_cancel_left, append-nil}
@@ -7,7 +7,7 @@ use Rattle.wg_words.specs.Each.{Each}
 use Rattle.wg_tool.specs.declared.pair.Pair.{Pair}
 use Rattle.wg_tool.specs.declared.pair.Sends.{Sends}
 use Rattle.wg_tool.specs.declared.pair.TheConstants.{STRUCT_LINE, PAIR_HEAD, INPUT, QUIET, OPENS, REQUESTS, ADDS, ENDS}
-use Rattle.wg_tool.specs.Parts.{is_name, ends_name, ends_number}
+use Rattle.wg_tool.specs.Parts.{is_name, ends_name}
 use Rattle.wg_tool.specs.FirstForm.{head_text, target_text, sending_text, sends_text, pair_text, pairs_text, graph_text, IsGoodSends, IsGoodPair, IsFirstForm}
 use Rattle.wg_tool.proofs.PartLemmas.{name_once, word_once}
 

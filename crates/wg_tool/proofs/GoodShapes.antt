@@ -1,6 +1,6 @@
 -- The shape of a graph of the first form is a good one.
-use Rattle.std.proofs.Common.{◌≡◌, ◌≢◌, ℕ, zero, suc, ◌+◌, ◌*◌, ◌^◌, ◌<◌, ◌≤◌, max, Bool, true, false, List, [], ◌∷◌, ◌++◌, length, Option, Some, None, refl, ap, sym, ◌∙◌, subst, arith, inl, inr, get_or}
-use Rattle.std.specs.Prelude.{IsTrue, ⊤, ◌&&◌, ◌||◌, ◌==◌, nat_lt, nat_le, map, slice_get, unwrap_or, if◌then◌else◌}
+use Rattle.std.proofs.Common.{◌≡◌, ℕ, zero, suc, ◌+◌, ◌<◌, ◌≤◌, Bool, true, false, List, [], ◌∷◌, ◌++◌, length, Option, Some, None, refl, ap, sym, ◌∙◌, subst, arith, inr, get_or}
+use Rattle.std.specs.Prelude.{IsTrue, ◌&&◌, ◌||◌, ◌==◌, nat_lt, map, slice_get, unwrap_or, if◌then◌else◌}
 use Rattle.std.specs.Option.{option_map}
 use Rattle.std.specs.List.{list_any, list_all, position}
 use Rattle.std.specs.Char.{is_ascii_lowercase, is_ascii_uppercase}
@@ -15,8 +15,8 @@ use Rattle.wg_machine.specs.declared.shape.NodeName.{NodeName}
 use Rattle.wg_machine.specs.declared.shape.Output.{Output}
 use Rattle.wg_machine.specs.declared.shape.Shape.{Shape}
 use Rattle.wg_machine.specs.declared.shape.Unit.{Unit}
-use Rattle.wg_machine.specs.GoodShape.{IsGoodShape, IsGoodUnit, IsGoodOutput, IsGoodTarget, IsBetween, IsAlike, IsUnrolled, is_identifier, is_letter, is_digit}
-use Rattle.wg_machine.specs.Unrolling.{sends_to, depth_of, node_at, IsFirst, node_and_level, unrolled}
+use Rattle.wg_machine.specs.GoodShape.{IsGoodShape, IsGoodUnit, IsGoodOutput, IsGoodTarget, IsBetween, IsAlike, is_identifier, is_letter, is_digit}
+use Rattle.wg_machine.specs.Unrolling.{depth_of, node_at, IsFirst, node_and_level, unrolled}
 use Rattle.wg_tool.specs.declared.pair.Pair.{Pair}
 use Rattle.wg_tool.specs.declared.pair.Sends.{Sends}
 use Rattle.wg_tool.specs.Parts.{is_name}
@@ -25,7 +25,8 @@ use Rattle.wg_tool.specs.Wiring.{unit_of, later_units, units_of, goes_later, are
 use Rattle.wg_tool.specs.Sending.{target_at}
 use Rattle.wg_tool.specs.SenderLaws.{SendsTo, IsWired}
 use Rattle.wg_tool.proofs.FormLemmas.{true_is_not_false}
-use Rattle.wg_tool.proofs.ShapeLemmas.{and_both, both_and, unit_sends, are_deep, deep_at, unit_at, length_units, deeper_than, later_at, shallow_units, AreShallow}
+use Rattle.wg_tool.proofs.PartLemmas.{and_both, both_and}
+use Rattle.wg_tool.proofs.ShapeLemmas.{unit_sends, are_deep, deep_at, unit_at, length_units, deeper_than, later_at, shallow_units}
 
 -- a shape of these units
 abbrev pub wired : List NodeName → List (Option ℕ) → Shape

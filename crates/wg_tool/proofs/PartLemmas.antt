@@ -1,5 +1,5 @@
 -- Names and words at the front of a text.
-use Rattle.std.proofs.Common.{◌≡◌, ◌≢◌, ℕ, zero, suc, ◌+◌, ◌-◌, ◌*◌, ◌/◌, ◌%◌, ◌^◌, ◌<◌, ◌≤◌, Bool, true, false, List, [], ◌∷◌, ◌++◌, length, take, drop, Option, Some, None, refl, ap, sym, ◌∙◌, subst, arith, append_assoc}
+use Rattle.std.proofs.Common.{◌≡◌, ◌≢◌, ℕ, ◌+◌, ◌-◌, ◌*◌, ◌/◌, ◌%◌, ◌^◌, ◌<◌, ◌≤◌, Bool, true, false, List, [], ◌∷◌, ◌++◌, length, take, drop, Option, Some, None, refl, ap, sym, ◌∙◌, arith, append_assoc}
 use Rattle.std.proofs.Math.Numerals.{one-add}
 use Rattle.std.specs.Prelude.{MatchOption, IfSome, IfNone, IsTrue, ◌&&◌, nat_lt, if◌then◌else◌}
 use Rattle.std.specs.List.{list_all}
@@ -7,7 +7,7 @@ use Rattle.std.specs.Char.{is_ascii_digit, is_ascii_lowercase, is_ascii_uppercas
 use Rattle.std.specs.Fmt.{decimal}
 use Rattle.std.proofs.lemmas.Bool.Decides.{nat_tests}
 use Rattle.std.proofs.lemmas.Fmt.{decimal_by_steps}
-use Rattle.std.proofs.lemmas.List.{append_cancel_left, append-nil, length-take, take-append-drop}
+use Rattle.std.proofs.lemmas.List.{append_cancel_left, length-take, take-append-drop}
 use Rattle.wg_tool.specs.Parts.{is_name, ends_name, ends_number, lower_length, value_from}
 
 pub some_of : {X : Type 0} (o : Option X) (P : Type 0) (Q : X → Type 0) → MatchOption o P Q → IfSome o Q
@@ -78,11 +78,11 @@ lower_is (c ∷ a) b p q = choice (is_ascii_lowercase c) refl (lower_is a b)
     choice true e h = let rest : IsTrue (list_all is_ascii_lowercase a) = rw e at p in rw e (omega (arith, h rest q))
     choice false e h = let no : false ≡ true = rw e at p in absurd (cc)
 
-and_both : (a b : Bool) → IsTrue (a && b) → IsTrue a × IsTrue b
+pub and_both : (a b : Bool) → IsTrue (a && b) → IsTrue a × IsTrue b
 and_both true b h = (refl, h)
 and_both false b h = absurd (cc)
 
-both_and : (a b : Bool) → IsTrue a → IsTrue b → IsTrue (a && b)
+pub both_and : (a b : Bool) → IsTrue a → IsTrue b → IsTrue (a && b)
 both_and true b p q = q
 both_and false b p q = absurd (cc)
 

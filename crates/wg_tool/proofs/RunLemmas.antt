@@ -7,13 +7,11 @@ use Rattle.wg_machine.specs.LaunchMeaning.{Meaning}
 use Rattle.wg_core.specs.declared.pending.Pending.{Pending}
 use Rattle.wg_core.specs.Core.{CoreView}
 use Rattle.wg_core.specs.Moves.{TakesStep}
-use Rattle.std.specs.Prelude.{IfSome, slice_get, slice_index, unwrap_or}
+use Rattle.std.specs.Prelude.{slice_get, slice_index, unwrap_or}
 use Rattle.std.specs.Option.{option_map}
 use Rattle.std.proofs.Common.{Option, ◌^◌, ◌%◌}
 use Rattle.wg_words.specs.Each.{Each}
-use Rattle.wg_machine.specs.declared.launch.Launch.{Launch}
 use Rattle.wg_machine.specs.declared.launch.Sent.{Sent}
-use Rattle.wg_machine.specs.declared.shape.Kind.{Kind}
 use Rattle.wg_machine.specs.declared.shape.Kind.TheVariants.{Thread}
 use Rattle.wg_machine.specs.declared.shape.Shape.{Shape}
 use Rattle.wg_machine.specs.declared.shape.Unit.{Unit}
@@ -26,19 +24,18 @@ use Rattle.wg_machine.specs.LaunchMeaning.{Arrives}
 use Rattle.wg_machine.specs.Run.{IsRun, IsComplete, EachOnce, EachState, all_born, denied_of}
 use Rattle.wg_machine.specs.State.{State, start}
 use Rattle.wg_machine.specs.Step.{Passed}
-use Rattle.wg_machine.specs.Units.{kind_at, words_at}
+use Rattle.wg_machine.specs.Units.{words_at}
 use Rattle.wg_core.specs.declared.report.Report.{Report}
 use Rattle.wg_core.specs.Standing.{StandsFor}
 use Rattle.wg_core.specs.Tables.{IsIdle}
 use Rattle.wg_journal.specs.declared.journal.Done.{Done}
 use Rattle.wg_tool.specs.declared.pair.Pair.{Pair}
-use Rattle.wg_tool.specs.FirstForm.{IsFirstForm}
-use Rattle.wg_tool.specs.Report.{IsReport, report_text, done_of, done_in}
-use Rattle.wg_tool.specs.Running.{KeepsPlan, IsReady, IsOnlyOut, RanOne, IsShort, IsRunnable}
+use Rattle.wg_tool.specs.Report.{IsReport, report_text, done_in}
+use Rattle.wg_tool.specs.Running.{IsOnlyOut, RanOne, IsShort}
 use Rattle.wg_tool.specs.Script.{IsScript, IsGoodEntry}
 use Rattle.wg_tool.specs.SenderLaws.{IsWired, sender_lawful}
 use Rattle.wg_tool.specs.Sending.{sender, target_at, one_sent, word_of}
-use Rattle.wg_tool.specs.Wiring.{unit_of, later_units, units_of, targets_of, shape_of}
+use Rattle.wg_tool.specs.Wiring.{unit_of, later_units, targets_of, shape_of}
 use Rattle.wg_tool.proofs.GoodShapes.{unit_there, length_targets}
 use Rattle.wg_tool.proofs.ShapeLemmas.{unit_at, length_units}
 

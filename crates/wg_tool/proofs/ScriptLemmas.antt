@@ -1,6 +1,6 @@
 -- A text is one script of the first form.
-use Rattle.std.proofs.Common.{◌≡◌, ◌≢◌, ℕ, zero, suc, ◌+◌, ◌^◌, ◌<◌, ◌≤◌, Bool, true, false, List, [], ◌∷◌, ◌++◌, length, Option, Some, None, refl, ap, sym, ◌∙◌, subst, arith, append_assoc, get_or}
-use Rattle.std.specs.Prelude.{IsTrue, nat_lt, map, slice_get, slice_index, unwrap_or, cond}
+use Rattle.std.proofs.Common.{◌≡◌, ◌≢◌, ℕ, ◌^◌, ◌<◌, Bool, true, false, List, [], ◌∷◌, ◌++◌, length, Option, Some, None, refl, ap, sym, ◌∙◌, subst, arith, append_assoc, get_or}
+use Rattle.std.specs.Prelude.{IsTrue, nat_lt, map, slice_get, slice_index, unwrap_or}
 use Rattle.std.specs.Option.{option_map}
 use Rattle.std.specs.List.{position, position_or_len}
 use Rattle.std.specs.Fmt.{decimal}
@@ -8,7 +8,7 @@ use Rattle.std.proofs.lemmas.Bool.Decides.{nat_tests}
 use Rattle.std.proofs.lemmas.List.{append_cancel_left, append-nil}
 use Rattle.std.proofs.lemmas.List.Quantifiers.{position-Some}
 use Rattle.std.proofs.lemmas.List.Sums.{position_or_len_is}
-use Rattle.std.proofs.lemmas.Option.{slice_get-get_or, slice_get-map, none-some}
+use Rattle.std.proofs.lemmas.Option.{slice_get-get_or, slice_get-map}
 use Rattle.std.proofs.lemmas.Slice.Eq.{bytes_eq-Decides}
 use Rattle.wg_words.specs.Each.{Each}
 use Rattle.wg_machine.specs.declared.launch.Sent.{Sent}
@@ -20,7 +20,7 @@ use Rattle.wg_tool.specs.FirstForm.{IsGoodPair, IsFirstForm, is_named, names_dif
 use Rattle.wg_tool.specs.Script.{entry_line, name_at, line_of, entry_lines, script_text, IsGoodEntry}
 use Rattle.wg_tool.specs.Wiring.{node_of, targets_of, is_free}
 use Rattle.wg_tool.proofs.PartLemmas.{name_once, word_once}
-use Rattle.wg_tool.proofs.FormLemmas.{all_regrouped, after_part, true_is_not_false}
+use Rattle.wg_tool.proofs.FormLemmas.{all_regrouped, after_part}
 use Rattle.wg_tool.proofs.GoodShapes.{nodes_differ, same_bytes, each_at}
 
 pub line_joined : (bytes a b d f name rest : List ℕ) (word : ℕ) → bytes ≡ ENTRY.now ++ a → a ≡ name ++ b → b ≡ BLANK.now ++ d → d ≡ decimal word ++ f → f ≡ LINE_END.now ++ rest → bytes ≡ entry_line name word ++ rest

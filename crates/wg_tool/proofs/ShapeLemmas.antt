@@ -1,26 +1,16 @@
 -- The shape of a graph of the first form is a good one.
-use Rattle.std.proofs.Common.{◌≡◌, ◌≢◌, ℕ, zero, suc, ◌+◌, ◌*◌, ◌^◌, ◌<◌, ◌≤◌, max, Bool, true, false, List, [], ◌∷◌, ◌++◌, length, Option, Some, None, refl, ap, sym, ◌∙◌, subst, arith, append_assoc, inl, inr, drop, get_or}
-use Rattle.std.specs.Prelude.{IsTrue, IfSome, ⊤, ◌&&◌, ◌||◌, ◌==◌, nat_lt, map, filter, slice_get, unwrap_or, if◌then◌else◌}
-use Rattle.std.specs.Option.{option_map}
-use Rattle.std.specs.List.{list_any, list_all, position}
+use Rattle.std.proofs.Common.{◌≡◌, ℕ, zero, suc, ◌+◌, ◌<◌, ◌≤◌, Bool, true, false, List, [], ◌∷◌, ◌++◌, length, Option, Some, None, refl, ap, sym, ◌∙◌, subst, arith, append_assoc, drop, get_or}
+use Rattle.std.specs.Prelude.{IsTrue, ⊤, ◌&&◌, ◌||◌, ◌==◌, nat_lt, map, filter, slice_get}
 use Rattle.std.proofs.lemmas.Bool.Decides.{nat_tests}
 use Rattle.std.proofs.lemmas.List.{append-nil, at_drop_more}
 use Rattle.std.proofs.lemmas.List.Elements.{filter-append}
-use Rattle.std.proofs.lemmas.Option.{slice_get_within, none-some, slice_get-get_or}
+use Rattle.std.proofs.lemmas.Option.{none-some}
 use Rattle.wg_words.specs.Each.{Each}
-use Rattle.wg_machine.specs.declared.shape.Output.{Output}
 use Rattle.wg_machine.specs.declared.shape.Unit.{Unit}
 use Rattle.wg_machine.specs.Need.{is_target, greatest}
 use Rattle.wg_machine.specs.Unrolling.{sends_to, depth_of}
+use Rattle.wg_tool.proofs.PartLemmas.{and_both}
 use Rattle.wg_tool.specs.Wiring.{unit_of, later_units, units_of, goes_later, are_later}
-
-pub and_both : (a b : Bool) → IsTrue (a && b) → IsTrue a × IsTrue b
-and_both true b h = (refl, h)
-and_both false b h = absurd (cc)
-
-pub both_and : (a b : Bool) → IsTrue a → IsTrue b → IsTrue (a && b)
-both_and true b p q = q
-both_and false b p q = absurd (cc)
 
 -- no depth is above a number
 abbrev pub AreShallow : ℕ → List Unit → Type 0

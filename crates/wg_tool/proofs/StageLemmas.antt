@@ -1,17 +1,14 @@
 -- From what one stage answers to what the next one says.
-use Rattle.std.proofs.Common.{◌≡◌, ℕ, ◌+◌, ◌<◌, ◌≤◌, List, [], ◌∷◌, ◌++◌, length, Option, Some, None, refl, ap, sym, ◌∙◌, subst, arith, inl, inr}
-use Rattle.std.specs.Prelude.{◌⊎◌, IfSome}
-use Rattle.wg_io.specs.Causes.{Appends, Rose, RoseBeyond}
+use Rattle.std.proofs.Common.{◌≡◌, ℕ, List, length, Option, refl, ap, sym, ◌∙◌, subst}
 use Rattle.wg_machine.specs.declared.launch.Entry.{Entry}
 use Rattle.wg_machine.specs.declared.launch.Sent.{Sent}
 use Rattle.wg_machine.specs.declared.shape.Shape.{Shape}
 use Rattle.wg_machine.specs.LaunchMeaning.{Meaning}
 use Rattle.wg_core.specs.declared.report.Report.{Report}
-use Rattle.wg_journal.specs.declared.journal.Done.{Done as Numbers}
 use Rattle.wg_tool.specs.declared.answer.Answer.{Answer}
-use Rattle.wg_tool.specs.declared.answer.Answer.TheVariants.{Done, Refused, Usage, BadScript, ReadFault, WriteFault, OutOfMemory, TooLong}
+use Rattle.wg_tool.specs.declared.answer.Answer.TheVariants.{Done}
 use Rattle.wg_tool.specs.declared.pair.Pair.{Pair}
-use Rattle.wg_tool.specs.Answers.{AppendsFront, BeginsText, Concludes}
+use Rattle.wg_tool.specs.Answers.{AppendsFront, BeginsText}
 use Rattle.wg_tool.specs.Headline.{ReportsScript}
 use Rattle.wg_tool.specs.Report.{IsReport, report_text, done_in}
 use Rattle.wg_tool.specs.Script.{IsScript, script_text}

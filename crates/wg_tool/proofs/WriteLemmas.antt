@@ -1,10 +1,8 @@
 -- What a sink holds after writes.
-use Rattle.std.proofs.Common.{◌≡◌, ℕ, ◌+◌, ◌-◌, ◌≤◌, List, [], ◌∷◌, ◌++◌, length, take, drop, length-drop, Option, Some, None, refl, ap, sym, ◌∙◌, subst, arith, append_assoc}
-use Rattle.std.specs.Prelude.{IfSome}
+use Rattle.std.proofs.Common.{◌≡◌, ℕ, ◌-◌, ◌≤◌, List, [], ◌++◌, length, take, drop, length-drop, Option, Some, None, ap, sym, ◌∙◌, arith, append_assoc}
 use Rattle.std.proofs.lemmas.List.{append-nil, take-append-drop}
 use Rattle.std.proofs.Math.Seq.{take-length}
 use Rattle.wg_io.specs.Causes.{Appends, Rose}
-use Rattle.wg_io.specs.Counts.{last_count}
 use Rattle.wg_tool.specs.Answers.{AppendsFront}
 
 pub appends_none : (o : Option (List ℕ)) → Appends o o []

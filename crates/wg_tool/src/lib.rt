@@ -10,12 +10,12 @@ mod pair;
 mod parts;
 mod print;
 mod run;
-mod runs;
 mod say;
 mod script;
 mod senders;
 mod sending;
 mod stages;
+mod steps;
 mod wiring;
 mod write;
 

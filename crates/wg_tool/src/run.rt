@@ -1,76 +1,37 @@
-ghost use Rattle.std.specs.Prelude.{◌≡◌, [], List, length, OnOk};
-ghost use Rattle.wg_machine.specs.declared.launch.Sent.{Sent as Record};
-ghost use Rattle.wg_core.specs.Standing.{StandsFor};
-ghost use Rattle.wg_core.specs.Tables.{IsIdle};
-ghost use Rattle.wg_tool.specs.Running.{KeepsPlan, IsReady, IsOnlyOut, RanOne, StandsShort};
+ghost use Rattle.std.specs.Prelude.{◌≡◌, ◌≤◌, ◌+◌, ◌^◌, IfOk};
+ghost use Rattle.wg_words.specs.Each.{Each};
+ghost use Rattle.wg_machine.specs.declared.launch.Entry.{Entry as Line};
+ghost use Rattle.wg_tool.specs.Report.{IsReport, report_text, done_in};
+ghost use Rattle.wg_tool.specs.Running.{IsRunnable};
 ghost use Rattle.wg_tool.specs.Sending.{sender};
-ghost use Rattle.wg_tool.specs.declared.limits.TheConstants.{LAUNCHES as MOST};
 
 use crate::bodies::Senders;
-use std::alloc::AllocError;
-use wg_core::{Core, Opened, Settled};
+use crate::limits::{LAUNCHES, TURNS};
+use crate::steps::run_all;
+use std::alloc::{AllocError, Global};
+use wg_core::{Core, Report, idle_is_complete};
+use wg_machine::{
+    Entries, Limits, chains_are_short, each_once, slots_hold_bytes, something_has_room,
+};
+use wg_words::TryCopy;
 
-/// What one opening and its settling came to.
-#[derive(Clone, Copy, Debug, PartialEq, Eq)]
-enum Stepped {
-    Ran,
-    Idle,
-    Memory,
-}
-
-/// Settles the one launch that is out.
-fn settle(senders: &Senders, core: &mut Core, ticket: u64) -> Result<(), AllocError>
-    requires graph { senders.now.shape ≡ core.old.shape }
-    requires out { IsOnlyOut core.old ticket }
-    ensures stands { (script : List Record) → StandsFor (sender senders.now.targets senders.now.adds) script [] core.old → StandsFor (sender senders.now.targets senders.now.adds) script [] core.new }
-    ensures plan { KeepsPlan core.old core.new }
-    ensures ran { OnOk result (RanOne core.old core.new) }
+/// Runs a script to its end.
+pub fn run_script(alloc: Global, senders: &Senders, entries: Entries) -> Result<Report, AllocError>
+    requires { IsRunnable senders.now.shape entries }
+    ensures report { IfOk result (λ r. IsReport senders.now.shape (sender senders.now.targets senders.now.adds) entries (report_text senders.now.shape r.entries (done_in r))) }
+    ensures outs { IfOk result (λ r. Each (λ (e : Line). e.first_out + e.outs ≤ 2 ^ 64) r.entries) }
 {
-    match core.settle(senders, ticket) {
-        Settled::Redone => Ok(()),
-        Settled::Memory => Err(AllocError),
-        Settled::Kept | Settled::TurnsSpent(_) | Settled::NotOut | Settled::Stopped =>
-            unreachable!(),
-    }
-}
-
-/// Opens the next launch and settles it.
-fn step(senders: &Senders, core: &mut Core) -> Stepped
-    requires graph { senders.now.shape ≡ core.old.shape }
-    requires limit { core.old.limits.launches ≡ MOST }
-    requires ready { IsReady core.old }
-    requires short { StandsShort (sender senders.now.targets senders.now.adds) core.old }
-    ensures stands { (script : List Record) → StandsFor (sender senders.now.targets senders.now.adds) script [] core.old → StandsFor (sender senders.now.targets senders.now.adds) script [] core.new }
-    ensures plan { KeepsPlan core.old core.new }
-    ensures ran { result ≡ Stepped.Ran → RanOne core.old core.new }
-    ensures idle { result ≡ Stepped.Idle → IsIdle core.new }
-{
-    match core.open() {
-        Opened::Idle => Stepped::Idle,
-        Opened::Memory => Stepped::Memory,
-        Opened::Launch(out) => match settle(senders, core, out.ticket) {
-            Ok(()) => Stepped::Ran,
-            Err(_) => Stepped::Memory,
-        },
-        Opened::NotNow | Opened::LaunchesSpent | Opened::Stopped => unreachable!(),
-    }
-}
-
-/// Opens and settles one launch after another, until nothing is left.
-pub fn run_all(senders: &Senders, core: &mut Core) -> Result<(), AllocError>
-    requires graph { senders.now.shape ≡ core.old.shape }
-    requires limit { core.old.limits.launches ≡ MOST }
-    requires ready { IsReady core.old }
-    requires short { StandsShort (sender senders.now.targets senders.now.adds) core.old }
-    ensures stands { (script : List Record) → StandsFor (sender senders.now.targets senders.now.adds) script [] core.old → StandsFor (sender senders.now.targets senders.now.adds) script [] core.new }
-    ensures plan { KeepsPlan core.old core.new }
-    ensures idle { OnOk result (IsIdle core.new) }
-{
-    loop {
-        match step(senders, core) {
-            Stepped::Ran => (),
-            Stepped::Idle => return Ok(()),
-            Stepped::Memory => return Err(AllocError),
-        }
-    }
+    each_once();
+    slots_hold_bytes();
+    something_has_room();
+    chains_are_short();
+    idle_is_complete();
+    let limits = Limits {
+        turns: TURNS,
+        launches: LAUNCHES,
+    };
+    let shape = senders.shape.copy(alloc)?;
+    let mut core = Core::new(alloc, shape, entries, limits)?;
+    run_all(senders, &mut core)?;
+    Ok(core.finish())
 }

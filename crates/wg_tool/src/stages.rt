@@ -11,7 +11,7 @@ use crate::graph::read_graph;
 use crate::limits::FILE_BYTES;
 use crate::pair::Pair;
 use crate::print::{PrintFault, print_report};
-use crate::runs::run_script;
+use crate::run::run_script;
 use crate::say::{say, say_fault};
 use crate::script::read_script;
 use crate::senders::senders_of;

@@ -1,5 +1,4 @@
-use Rattle.std.proofs.Common.{◌≡◌, ℕ, List, refl, inl, inr}
-use Rattle.wg_tool.specs.declared.answer.Answer.{Answer}
+use Rattle.std.proofs.Common.{refl, inl, inr}
 use Rattle.wg_tool.specs.declared.answer.Answer.TheVariants.{Usage}
 use Rattle.wg_tool.specs.declared.answer.TheConstants.{USAGE}
 use Rattle.wg_tool.specs.Headline.{FilesView, RunSays, Says, texts_of}

@@ -1,4 +1,3 @@
-use Rattle.std.proofs.Common.{◌≡◌, ℕ, List}
 use Rattle.wg_tool.specs.Headline.{FilesView, SinkView, texts_of}
 use Rattle.wg_tool.proofs.CompleteLemmas.{complete}
 use Rattle.wg_tool.proofs.call.steady.Goals as goal

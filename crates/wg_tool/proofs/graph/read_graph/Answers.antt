@@ -1,4 +1,4 @@
-use Rattle.std.proofs.Common.{◌≡◌, ◌≢◌, ◌++◌, [], ℕ, List, true, false, length, ap, sym, ◌∙◌, arith, rules}
+use Rattle.std.proofs.Common.{◌≡◌, length, ap, sym, ◌∙◌, arith}
 use Rattle.wg_tool.specs.FirstForm.{pairs_text, names_differ, targets_are_later, IsFirstForm}
 use Rattle.wg_tool.proofs.FormLemmas.{form_read, true_is_not_false}
 use Rattle.std.proofs.lemmas.Bool.Decides.{nat_tests}

@@ -1,4 +1,4 @@
-use Rattle.std.proofs.Common.{◌≡◌, ◌++◌, sym, ◌∙◌}
+use Rattle.std.proofs.Common.{◌++◌, ◌∙◌}
 use Rattle.wg_tool.specs.declared.pair.TheConstants.{PAIR_HEAD, INPUT}
 use Rattle.wg_tool.proofs.FormLemmas.{regrouped, head_joined, head_named}
 use Rattle.wg_tool.proofs.graph.read_head.Goals as goal

@@ -1,4 +1,4 @@
-use Rattle.std.proofs.Common.{◌≡◌, ◌++◌, ℕ, List, ap, sym, ◌∙◌, append_assoc}
+use Rattle.std.proofs.Common.{◌++◌, ◌∙◌, append_assoc}
 use Rattle.wg_tool.specs.FirstForm.{head_text, sends_text}
 use Rattle.wg_tool.proofs.FormLemmas.{pair_after, no_pair, sender_found}
 use Rattle.wg_tool.proofs.graph.read_pair.Goals as goal

@@ -1,4 +1,4 @@
-use Rattle.std.proofs.Common.{◌≡◌, ◌≢◌, ◌++◌, [], ℕ, List, length, ap, sym, ◌∙◌, arith, rules, append_assoc}
+use Rattle.std.proofs.Common.{◌≢◌, ◌++◌, [], ℕ, List, ap, sym, ◌∙◌, arith, rules, append_assoc}
 use Rattle.std.proofs.lemmas.List.{length_push}
 use Rattle.wg_tool.specs.FirstForm.{pair_text, pairs_text, IsGoodPair}
 use Rattle.wg_tool.proofs.FormLemmas.{pairs_text_push, each_push, only_more, first_pair}

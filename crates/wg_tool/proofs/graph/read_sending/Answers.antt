@@ -1,4 +1,4 @@
-use Rattle.std.proofs.Common.{◌≡◌, ◌++◌, ℕ, List, ap, sym, refl, rules, ◌∙◌}
+use Rattle.std.proofs.Common.{◌≡◌, ◌++◌, ℕ, ap, refl, rules, ◌∙◌}
 use Rattle.std.specs.Fmt.{decimal}
 use Rattle.wg_tool.specs.declared.pair.TheConstants.{ENDS}
 use Rattle.wg_tool.specs.FirstForm.{target_text}

@@ -1,4 +1,4 @@
-use Rattle.std.proofs.Common.{◌≡◌, ◌++◌, sym, ◌∙◌}
+use Rattle.std.proofs.Common.{◌++◌, ◌∙◌}
 use Rattle.wg_tool.specs.declared.pair.TheConstants.{OPENS, REQUESTS, ADDS}
 use Rattle.wg_tool.proofs.FormLemmas.{all_regrouped, after_part, target_joined, target_named}
 use Rattle.wg_tool.proofs.graph.read_target.Goals as goal

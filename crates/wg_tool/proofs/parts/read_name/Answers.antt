@@ -1,5 +1,5 @@
-use Rattle.std.proofs.Common.{◌≡◌, ◌++◌, sym, ◌∙◌, arith}
-use Rattle.wg_tool.proofs.PartLemmas.{name_found, named_front}
+use Rattle.std.proofs.Common.{sym, ◌∙◌}
+use Rattle.wg_tool.proofs.PartLemmas.{name_found}
 use Rattle.wg_tool.proofs.parts.read_name.Goals as goal
 
 pub returns-clause-found : goal.returns-clause-found

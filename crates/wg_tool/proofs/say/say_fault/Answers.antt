@@ -1,4 +1,4 @@
-use Rattle.std.proofs.Common.{◌≡◌, ℕ, List, refl, sym, subst, ◌∙◌}
+use Rattle.std.proofs.Common.{refl, sym, subst, ◌∙◌}
 use Rattle.wg_io.specs.declared.files.FileFault.{FileFault}
 use Rattle.wg_io.specs.declared.files.FileFault.TheVariants as fault
 use Rattle.wg_tool.specs.declared.answer.Answer.TheVariants.{ReadFault, TooLong}

@@ -1,4 +1,4 @@
-use Rattle.std.proofs.Common.{◌≡◌, ◌++◌, ℕ, List, Option, Some, true, false, ap, sym, refl, ◌∙◌, subst, arith}
+use Rattle.std.proofs.Common.{◌≡◌, Some, true, false, sym, refl, ◌∙◌}
 use Rattle.std.specs.Prelude.{slice_index}
 use Rattle.wg_tool.specs.Script.{name_at}
 use Rattle.std.proofs.lemmas.Option.{none-some}

@@ -1,8 +1,8 @@
-use Rattle.std.proofs.Common.{◌≡◌, ◌++◌, ℕ, List, ap, sym, refl, ◌∙◌}
+use Rattle.std.proofs.Common.{◌≡◌, ◌++◌, ℕ, ap, refl, ◌∙◌}
 use Rattle.std.specs.Fmt.{decimal}
 use Rattle.wg_tool.specs.declared.script.TheConstants.{BLANK, LINE_END}
 use Rattle.wg_tool.proofs.FormLemmas.{after_part}
-use Rattle.wg_tool.proofs.ScriptLemmas.{line_named, line_joined}
+use Rattle.wg_tool.proofs.ScriptLemmas.{line_named}
 use Rattle.wg_tool.proofs.script.read_line.Goals as goal
 
 pub returns-in_default-strip-clause-none : goal.returns-in_default-strip-clause-none

@@ -1,4 +1,4 @@
-use Rattle.std.proofs.Common.{◌≡◌, ◌≢◌, ◌++◌, [], ℕ, List, length, ap, sym, ◌∙◌, arith, rules, append_assoc}
+use Rattle.std.proofs.Common.{◌≢◌, ◌++◌, [], ℕ, List, ap, sym, ◌∙◌, arith, rules, append_assoc}
 use Rattle.std.proofs.lemmas.List.{length_push}
 use Rattle.wg_tool.specs.Script.{line_of, entry_lines, IsGoodEntry}
 use Rattle.wg_tool.specs.declared.script.TheConstants.{SCRIPT_LINE}

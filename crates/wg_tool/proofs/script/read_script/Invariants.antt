@@ -1,7 +1,7 @@
-use Rattle.std.proofs.Common.{◌≡◌, ◌≤◌, ◌++◌, List, ℕ, length}
+use Rattle.std.proofs.Common.{◌≡◌, ◌≤◌, ◌++◌, List, length}
 use Rattle.wg_words.specs.Each.{Each}
 use Rattle.wg_machine.specs.declared.launch.Sent.{Sent}
-use Rattle.wg_tool.specs.Script.{entry_lines, script_text, IsGoodEntry, IsScript}
+use Rattle.wg_tool.specs.Script.{entry_lines, script_text, IsGoodEntry}
 use Rattle.wg_tool.specs.declared.script.TheConstants.{SCRIPT_LINE}
 use Rattle.wg_tool.proofs.script.read_script.Given as goal
 

@@ -1,4 +1,4 @@
-use Rattle.std.proofs.Common.{◌≡◌, ◌≤◌, ℕ, List, Option, length, ap, subst, sym, arith, ◌∙◌}
+use Rattle.std.proofs.Common.{◌≡◌, ℕ, List, Option, length, ap, subst, sym, arith, ◌∙◌}
 use Rattle.wg_machine.specs.declared.shape.Shape.{Shape}
 use Rattle.wg_tool.specs.SenderLaws.{IsWired}
 use Rattle.wg_tool.specs.Wiring.{shape_of, targets_of}

@@ -1,4 +1,4 @@
-use Rattle.std.proofs.Common.{◌≡◌, ℕ, List, Err, ap, subst, sym, ◌∙◌}
+use Rattle.std.proofs.Common.{◌≡◌, ℕ, List, Err, ap, ◌∙◌}
 use Rattle.wg_io.specs.declared.files.FileFault.{FileFault}
 use Rattle.std.specs.Prelude.{IfSome}
 use Rattle.wg_tool.specs.declared.answer.Input.TheVariants as input

@@ -1,4 +1,4 @@
-use Rattle.std.proofs.Common.{◌≡◌, refl, ap, ◌∙◌}
+use Rattle.std.proofs.Common.{refl}
 use Rattle.wg_tool.specs.declared.answer.Answer.TheVariants.{BadScript}
 use Rattle.wg_tool.specs.declared.answer.TheConstants.{BAD_SCRIPT}
 use Rattle.wg_tool.specs.Sending.{sender}

@@ -1,4 +1,4 @@
-use Rattle.std.proofs.Common.{◌≡◌, inr}
+use Rattle.std.proofs.Common.{inr}
 use Rattle.wg_tool.specs.Sending.{sender}
 use Rattle.wg_tool.proofs.StageLemmas.{report_begun}
 use Rattle.wg_tool.proofs.stages.run_entries.Goals as goal

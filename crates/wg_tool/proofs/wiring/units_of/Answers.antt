@@ -1,7 +1,7 @@
-use Rattle.std.proofs.Common.{◌≡◌, ◌++◌, ◌+◌, ◌^◌, ◌<◌, [], ◌∷◌, ℕ, List, Option, None, get_or, drop, ap, sym, ◌∙◌, subst, arith}
+use Rattle.std.proofs.Common.{◌≡◌, ◌++◌, ◌+◌, ◌^◌, ◌<◌, [], ◌∷◌, ℕ, List, None, get_or, ap, ◌∙◌, arith}
 use Rattle.wg_machine.specs.declared.shape.Unit.{Unit}
 use Rattle.wg_machine.specs.Unrolling.{depth_of}
-use Rattle.wg_tool.specs.Wiring.{unit_of, later_units, units_of}
+use Rattle.wg_tool.specs.Wiring.{unit_of}
 use Rattle.wg_tool.proofs.ShapeLemmas.{shallow_depth, shallow_next, units_step}
 use Rattle.wg_tool.proofs.wiring.units_of.Goals as goal
 

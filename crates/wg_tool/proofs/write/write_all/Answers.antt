@@ -1,4 +1,4 @@
-use Rattle.std.proofs.Common.{◌≡◌, ◌≤◌, ◌++◌, take, arith}
+use Rattle.std.proofs.Common.{◌++◌, take, arith}
 use Rattle.wg_tool.proofs.WriteLemmas.{appends_more, front_grows}
 use Rattle.wg_tool.proofs.write.write_all.Goals as goal
 

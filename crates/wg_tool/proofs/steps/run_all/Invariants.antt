@@ -1,10 +1,10 @@
-use Rattle.std.proofs.Common.{◌≡◌, ◌-◌, [], List, length}
+use Rattle.std.proofs.Common.{◌-◌, [], List, length}
 use Rattle.wg_machine.specs.declared.launch.Sent.{Sent}
 use Rattle.wg_core.specs.Standing.{StandsFor}
 use Rattle.wg_tool.specs.Running.{KeepsPlan, IsReady, StandsShort}
 use Rattle.wg_tool.specs.Sending.{sender}
 use Rattle.wg_tool.specs.declared.limits.TheConstants.{LAUNCHES}
-use Rattle.wg_tool.proofs.run.run_all.Given as goal
+use Rattle.wg_tool.proofs.steps.run_all.Given as goal
 
 -- the core is ready, and stands for what it stood for
 abbrev pub invariant-loop : goal.invariant-loop

@@ -1,6 +1,6 @@
 use Rattle.wg_tool.specs.Sending.{sender}
 use Rattle.wg_tool.proofs.RunLemmas.{ran_one}
-use Rattle.wg_tool.proofs.run.settle.Goals as goal
+use Rattle.wg_tool.proofs.steps.settle.Goals as goal
 
 pub returns-in-Redone-clause-ran : goal.returns-in-Redone-clause-ran
 returns-in-Redone-clause-ran c =

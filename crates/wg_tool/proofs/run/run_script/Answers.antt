@@ -1,7 +1,6 @@
-use Rattle.std.proofs.Common.{◌≡◌, ◌≤◌, ◌+◌, ℕ, List, [], refl, ap, subst, sym, ◌∙◌, arith}
+use Rattle.std.proofs.Common.{◌≡◌, [], ap, subst, sym, ◌∙◌}
 use Rattle.wg_words.specs.Each.{Each}
 use Rattle.wg_machine.specs.declared.launch.Limits.{Limits}
-use Rattle.wg_machine.specs.declared.launch.Sent.{Sent}
 use Rattle.wg_machine.specs.declared.shape.Shape.{Shape}
 use Rattle.wg_machine.specs.declared.shape.Unit.{Unit}
 use Rattle.wg_machine.specs.declared.shape.Kind.TheVariants.{Thread}
@@ -16,7 +15,7 @@ use Rattle.wg_tool.specs.Sending.{sender}
 use Rattle.wg_tool.specs.Wiring.{shape_of}
 use Rattle.wg_tool.proofs.GoodShapes.{good_shape}
 use Rattle.wg_tool.proofs.RunLemmas.{threads, entries_arrive, runs_are_short, report_is, outs_fit}
-use Rattle.wg_tool.proofs.runs.run_script.Goals as goal
+use Rattle.wg_tool.proofs.run.run_script.Goals as goal
 
 pub new-requires-clause-good : goal.new-requires-clause-good
 new-requires-clause-good c = subst (λ (s : Shape). IsGoodShape s) (sym (c.in_ok-shape.ensures ∙ c.requires.is)) (good_shape c.requires.pairs c.requires.form)

@@ -1,0 +1,62 @@
+-- Inside a core: its fields, and what every core keeps.
+use Rattle.std.specs.Prelude.{◌≡◌, ℕ, ◌+◌, ◌*◌, ◌^◌, ◌≤◌, Bool, List, [], length, filter, nat_le, Option, IfSome, Some, slice_get, slice_index}
+use Rattle.wg_words.specs.Each.{Each}
+use Rattle.wg_machine.specs.declared.launch.Entry.{Entry}
+use Rattle.wg_machine.specs.declared.launch.Limits.{Limits}
+use Rattle.wg_machine.specs.declared.launch.Live.{Live}
+use Rattle.wg_machine.specs.GoodShape.{IsGoodShape}
+use Rattle.wg_core.specs.declared.pending.Pending.{Pending}
+use Rattle.wg_core.specs.Core.{CoreView}
+use Rattle.wg_core.specs.Outs.{unopened}
+use Rattle.wg_core.specs.Standing.{IsPlaced, by_unit, reserved}
+use Rattle.wg_core.specs.Store.{Kept, AllThread}
+use Rattle.wg_core.specs.Tables.{SomeIsOut}
+
+-- what contracts see, of a store and the other fields
+abbrev pub now_of : Kept → Limits → List Entry → ℕ → List Pending → ℕ → ℕ → ℕ → Option ℕ → CoreView
+now_of k limits journal next outs tickets denied peak stopped =
+    record {
+      shape = k.shape;
+      width = k.width;
+      limits = limits;
+      handed = k.handed;
+      journal = journal;
+      next = next;
+      buffers = [];
+      waits = by_unit k.handed 0 (length k.shape.units) k.waiting;
+      entries = k.entries;
+      used = k.used;
+      outs = outs;
+      tickets = tickets;
+      denied = denied;
+      peak = peak;
+      stopped = stopped;
+    }
+
+abbrev pub is_in_slot : ℕ → Live → Bool
+is_in_slot handed x = nat_le handed x.number
+
+-- what every core keeps
+pub record IsSound (k : Kept) (core : CoreView) (places : ℕ) : Type 0 where
+  pub bag : List Live
+  pub placed : IsPlaced core bag
+  -- the store's list is what waits in slots, and its reserves are those of the launches out
+  pub waiting : k.waiting ≡ filter (is_in_slot core.handed) (unopened core.outs bag)
+  pub reserves : (v : ℕ) → slice_index k.reserved v ≡ reserved core.shape core.outs v
+  pub good : IsGoodShape core.shape
+  pub threads : AllThread core.shape
+  pub wide : 1 ≤ core.width
+  -- bounds of the numbers
+  pub few : core.limits.launches ≤ 10000000
+  pub next : core.next ≤ 1000000 + 16384 * length core.journal
+  pub denied : core.denied ≤ 2 ^ 32 * length core.journal
+  pub born : Each (λ (e : Entry). e.first_out + e.outs ≤ core.next) core.journal
+  pub spent : IfSome core.stopped (SomeIsOut core)
+  -- the journal has a place for each launch out
+  pub spare : length core.journal + length core.outs ≤ places
+
+-- the launch at a place has the ticket
+pub record IsAt (outs : List Pending) (place ticket : ℕ) : Type 0 where
+  pub pending : Pending
+  pub there : slice_get outs place ≡ Some pending
+  pub named : pending.ticket ≡ ticket

@@ -1,0 +1,9 @@
+pub mod Choice
+pub mod Core
+pub mod Inside
+pub mod Moves
+pub mod Outs
+pub mod Standing
+pub mod Store
+pub mod StoreInside
+pub mod Tables

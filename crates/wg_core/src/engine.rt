@@ -174,7 +174,7 @@ impl Core {
             return Opened::NotNow;
         };
         let ticket = self.tickets;
-        let Ok(pending) = launch_of(self.alloc, ticket, self.store.record(place)) else {
+        let Ok(pending) = launch_of(self.alloc, ticket, self.store.at(place)) else {
             return Opened::Memory;
         };
         let Ok(launch) = pending.launch.copy(self.alloc) else {

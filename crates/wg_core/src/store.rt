@@ -161,7 +161,7 @@ impl Store {
     }
 
     /// The record at a place.
-    pub fn record(&self, place: Place) -> &Live
+    pub fn at(&self, place: Place) -> &Live
         requires { IsSome (record_at self.now place) }
         ensures { record_at self.now place ≡ Some result.now }
     {

@@ -1,6 +1,6 @@
 -- Launches that stay allowed.
 use Rattle.std.proofs.Common.{◌≡◌, ℕ, zero, suc, ◌+◌, ◌<◌, ◌≤◌, Bool, true, false, ◌||◌, List, [], ◌∷◌, ◌++◌, length, map, refl, ap, sym, ◌∙◌, subst, arith, inl, inr, ◌⊎◌}
-use Rattle.std.specs.Prelude.{if◌then◌else◌, ◌==◌, ◌&&◌, filter, Contains, slice_index_or}
+use Rattle.std.specs.Prelude.{if◌then◌else◌, ◌==◌, ◌&&◌, filter}
 use Rattle.std.proofs.lemmas.Bool.Decides.{nat_tests, Decides-eqb}
 use Rattle.wg_core.specs.declared.pending.Pending.{Pending}
 use Rattle.wg_machine.specs.declared.launch.Live.{Live}
@@ -8,15 +8,11 @@ use Rattle.wg_machine.specs.declared.launch.Record.{Record}
 use Rattle.wg_machine.specs.declared.shape.Shape.{Shape}
 use Rattle.wg_machine.specs.State.{kept}
 use Rattle.wg_machine.specs.Step.{left_after, is_among, taken, record_of, numbers_of, IsReady, Allows}
-use Rattle.wg_machine.specs.Grids.{without_group, same_group}
+use Rattle.wg_machine.specs.Grids.{without_group, same_group, has_group}
 use Rattle.wg_core.specs.Outs.{numbers_out, after_one, unopened, IsApart, ApartFromAll, AllApart, AllAllowed}
 use Rattle.wg_core.specs.Standing.{Rises}
 use Rattle.wg_words.specs.Each.{Each}
-use Rattle.wg_core.proofs.Commute.{append_nil, live_with, ran, left_append}
-
-pub contains_cases : (g e : List ℕ) (gs : List (List ℕ)) (k : ℕ) → k < length (g ∷ gs) → slice_index_or (g ∷ gs) k e ≡ e → (g ≡ e) ⊎ Contains gs e
-contains_cases g e gs zero h q = inl q
-contains_cases g e gs (suc k) h q = inr (k, omega arith, q)
+use Rattle.wg_core.proofs.Commute.{append_nil, live_with, ran, left_append, same_both}
 
 pub same_self : (g : List ℕ) → same_group g g ≡ true
 same_self g = grind (arith, nat_tests)
@@ -24,23 +20,37 @@ same_self g = grind (arith, nat_tests)
 pub same_sym : (g h : List ℕ) → same_group g h ≡ same_group h g
 same_sym g h = grind (arith, nat_tests)
 
-contains_here : (g : List ℕ) (gs : List (List ℕ)) → Contains (g ∷ gs) g
-contains_here g gs = (0, omega arith, refl)
+either : (a b : Bool) → (a || b) ≡ true → (a ≡ true) ⊎ (b ≡ true)
+either true b e = inl refl
+either false b e = inr e
 
-pub contains_more : (g e : List ℕ) (gs : List (List ℕ)) → Contains gs e → Contains (g ∷ gs) e
-contains_more g e gs c = (suc c.0, let h = c.1 in omega arith, c.2)
+pub has_cases : (g at : List ℕ) (gs : List (List ℕ)) → has_group (g ∷ gs) at ≡ true → (same_group g at ≡ true) ⊎ (has_group gs at ≡ true)
+has_cases g at gs h = either (same_group g at) (has_group gs at) h
+
+or_first : (a b : Bool) → a ≡ true → (a || b) ≡ true
+or_first true b e = refl
+or_first false b e = absurd (cc)
+
+or_second : (a b : Bool) → b ≡ true → (a || b) ≡ true
+or_second true b e = refl
+or_second false b e = e
+
+pub has_here : (g at : List ℕ) (gs : List (List ℕ)) → same_group g at ≡ true → has_group (g ∷ gs) at ≡ true
+has_here g at gs e = or_first (same_group g at) (has_group gs at) e
+
+pub has_more : (g at : List ℕ) (gs : List (List ℕ)) → has_group gs at ≡ true → has_group (g ∷ gs) at ≡ true
+has_more g at gs e = or_second (same_group g at) (has_group gs at) e
 
 -- another group stays
-pub without_keeps : (at other : List ℕ) (gs : List (List ℕ)) → Contains gs at → same_group other at ≡ false → Contains (without_group other gs) at
-without_keeps at other [] c f = absurd (omega (arith, c.1))
-without_keeps at other (g ∷ gs) c f = choice (λ d. without_keeps at other gs d f) (same_group g other) refl (contains_cases g at gs c.0 c.1 c.2)
+pub without_keeps : (at other : List ℕ) (gs : List (List ℕ)) → has_group gs at ≡ true → same_group other at ≡ false → has_group (without_group other gs) at ≡ true
+without_keeps at other [] c f = c
+without_keeps at other (g ∷ gs) c f = choice (λ d. without_keeps at other gs d f) (same_group g other) refl (has_cases g at gs c)
   where
-    choice : (Contains gs at → Contains (without_group other gs) at) → (b : Bool) → same_group g other ≡ b → (g ≡ at) ⊎ Contains gs at → Contains (if b then gs else g ∷ without_group other gs) at
-    choice ih true e (inl q) =
-        let t : same_group other at ≡ true = same_sym other at ∙ subst (λ (x : List ℕ). same_group x other ≡ true) q e in absurd (cc)
+    choice : (has_group gs at ≡ true → has_group (without_group other gs) at ≡ true) → (b : Bool) → same_group g other ≡ b → (same_group g at ≡ true) ⊎ (has_group gs at ≡ true) → has_group (if b then gs else g ∷ without_group other gs) at ≡ true
+    choice ih true e (inl q) = let t = same_both g other at e q in absurd (cc)
     choice ih true e (inr d) = d
-    choice ih false e (inl q) = subst (λ (x : List ℕ). Contains (g ∷ without_group other gs) x) q (contains_here g (without_group other gs))
-    choice ih false e (inr d) = contains_more g at (without_group other gs) (ih d)
+    choice ih false e (inl q) = has_here g at (without_group other gs) q
+    choice ih false e (inr d) = has_more g at (without_group other gs) (ih d)
 
 pub taken_append : (nums : List ℕ) (xs ys : List Live) → taken nums (xs ++ ys) ≡ taken nums xs ++ taken nums ys
 taken_append nums [] ys = refl
@@ -63,8 +73,8 @@ pub record StaysReady (unit : ℕ) (at nums : List ℕ) (old new : List Live) : 
   pub records : map record_of (taken nums new) ≡ map record_of (taken nums old)
   pub ready : Each (IsReady unit at) (taken nums new)
 
-stays_one : (unit : ℕ) (at nums other : List ℕ) (number u : ℕ) (words : List ℕ) (gs : List (List ℕ)) (old rest : List Live) → is_among nums number ≡ true → u ≡ unit → Contains gs at → StaysReady unit at nums old rest → StaysReady unit at nums (live_with number u words gs ∷ old) (kept (live_with number u words gs) ++ rest)
-stays_one unit at nums other number u words [] old rest e f c s = absurd (omega (arith, c.1))
+stays_one : (unit : ℕ) (at nums other : List ℕ) (number u : ℕ) (words : List ℕ) (gs : List (List ℕ)) (old rest : List Live) → is_among nums number ≡ true → u ≡ unit → has_group gs at ≡ true → StaysReady unit at nums old rest → StaysReady unit at nums (live_with number u words gs ∷ old) (kept (live_with number u words gs) ++ rest)
+stays_one unit at nums other number u words [] old rest e f c s = absurd (cc)
 stays_one unit at nums other number u words (g ∷ gs) old rest e f c s =
     record {
       records = rw e (ap (λ (tail : List Record). record { number = number; words = words } ∷ tail) s.records);
@@ -106,4 +116,5 @@ stays_allowed shape bag o p apart a =
       ready = s.ready;
       grid = a.grid;
       group = a.group;
+      last = a.last;
     }

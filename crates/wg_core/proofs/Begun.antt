@@ -17,13 +17,10 @@ use Rattle.wg_core.specs.Core.{CoreView, begun}
 use Rattle.wg_core.specs.Moves.{bytes_of}
 use Rattle.wg_words.specs.Each.{Each}
 use Rattle.wg_core.proofs.Rising.{rises_kept, rises_born}
+use Rattle.wg_core.proofs.Slots.{slots_kept}
 use Rattle.wg_core.proofs.Grids.{distinct_born}
 use Rattle.wg_core.proofs.Counting.{count_cons}
 use Rattle.wg_core.proofs.Bytes.{full_born, known_born, words_born, bytes_are}
-
-length_handed : (script : List Sent) → length (handed_in script) ≡ length script
-length_handed [] = refl
-length_handed (e ∷ es) = ap suc (length_handed es)
 
 and_false : (a b : Bool) → b ≡ false → (a && b) ≡ false
 and_false true b e = e
@@ -76,43 +73,43 @@ zero_at zero v = refl
 zero_at (suc n) zero = refl
 zero_at (suc n) (suc v) = zero_at n v
 
-pub begun_stands : (made : Meaning) (shape : Shape) (width : ℕ) (limits : Limits) (script : List Sent) (start : Buffers) → Each (Arrives shape) (handed_in script) → StandsFor made script start (begun shape width limits script start)
+pub begun_stands : (made : Meaning) (shape : Shape) (width : ℕ) (limits : Limits) (script : List Sent) (start : Buffers) → Each (Arrives shape) script → StandsFor made script start (begun shape width limits script start)
 begun_stands made shape width limits script start arrive =
     let n = length shape.units in
-    let sent = handed_in script in
-    let bag = flat_map kept (born shape 0 sent) in
-    let e : 0 + length sent ≡ length script = let k = length_handed script in omega (arith, k) in
-    let rises : Rises 0 bag (length script) = subst (Rises 0 bag) e (rises_kept 0 (0 + length sent) (born shape 0 sent) (rises_born shape 0 sent)) in
-    let known = known_born shape 0 sent arrive in
+    let bag = flat_map kept (born shape 0 script) in
+    let e : 0 + length script ≡ length script = omega arith in
+    let rises : Rises 0 bag (length script) = subst (Rises 0 bag) e (rises_kept 0 (0 + length script) (born shape 0 script) (rises_born shape 0 script)) in
+    let known = known_born shape 0 script arrive in
     let bytes : live_bytes shape (length script) (start_of shape script start) ≡ 0 = bytes_are shape (length script) (start_of shape script start) known ∙ ap (bytes_of shape 0) (sym (nothing_used (length script) 0 n bag rises)) ∙ no_bytes shape 0 n in
+    let placed : IsPlaced (begun shape width limits script start) bag = record {
+      waits = nothing_waits (length script) 0 n bag rises;
+      entries = sym (all_entries (length script) 0 bag rises);
+      allowed = tt;
+      apart = tt;
+      tickets_differ = tt;
+      tickets_below = tt;
+      tickets = refl;
+      launches = omega arith;
+      inputs = tt;
+      rises = rises;
+      handed = omega arith;
+      distinct = distinct_born shape 0 script;
+      full = full_born shape 0 script;
+      known = known;
+      words = words_born shape 0 script arrive;
+      used = nothing_used (length script) 0 n bag rises;
+      room = λ v. let z = zero_at n v in omega (arith, z);
+    } in
     record {
       state = start_of shape script start;
       trail = [];
       run = refl;
       handed = refl;
-      placed = record {
-        waits = nothing_waits (length script) 0 n bag rises;
-        entries = sym (all_entries (length script) 0 bag rises);
-        allowed = tt;
-        apart = tt;
-        tickets_differ = tt;
-        tickets_below = tt;
-        tickets = refl;
-        launches = omega arith;
-        inputs = tt;
-        rises = rises;
-        handed = omega arith;
-        distinct = distinct_born shape 0 sent;
-        full = full_born shape 0 sent;
-        known = known;
-        words = words_born shape 0 sent arrive;
-        used = nothing_used (length script) 0 n bag rises;
-        room = λ v h. let z = zero_at n v in omega (arith, z);
-      };
+      placed = placed;
       next = refl;
       buffers = refl;
       denied = refl;
       peak = sym bytes;
-      peak_fits = omega arith;
+      slots = slots_kept (begun shape width limits script start) bag placed;
       spent = tt;
     }

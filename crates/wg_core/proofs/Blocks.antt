@@ -11,6 +11,9 @@ use Rattle.wg_core.specs.Core.{CoreView}
 use Rattle.wg_core.specs.Standing.{IsPlaced, by_unit, counts, in_slot, is_entry, reserved, EachKnown}
 use Rattle.wg_core.specs.Choice.{UnitHasRoom, NoPick, waiting_at, first_unit, CanEnter}
 use Rattle.wg_machine.specs.Units.{depth_at}
+use Rattle.wg_core.proofs.Shapes.{needs_deeper, needed_within, needs_no_more}
+use Rattle.wg_machine.specs.GoodShape.{IsGoodShape}
+use Rattle.wg_machine.specs.Units.{depth_at}
 use Rattle.wg_core.proofs.Counting.{count_cons}
 
 count_filter : (p : Live → Bool) (xs : List Live) → count_by p xs ≡ length (filter p xs)
@@ -37,7 +40,7 @@ zero_or : (n : ℕ) → (n ≡ 0) ⊎ (0 < n)
 zero_or zero = inl refl
 zero_or (suc n) = inr (omega arith)
 
-le_or : (a b : ℕ) → (a ≤ b) ⊎ (b < a)
+pub le_or : (a b : ℕ) → (a ≤ b) ⊎ (b < a)
 le_or a b = choice (nat_le a b) refl
   where
     choice : (t : Bool) → nat_le a b ≡ t → (a ≤ b) ⊎ (b < a)
@@ -49,20 +52,20 @@ times_one zero m h = absurd (omega arith)
 times_one (suc w) m h = grind arith
 
 -- a unit with nothing deeper that waits has room
-pub deepest_has_room : (core : CoreView) (bag : List Live) (u : ℕ) → NeedsDeeper core.shape → 1 ≤ core.width → IsPlaced core bag → core.outs ≡ [] → ((v : ℕ) → v < length core.shape.units → 0 < length (waiting_at core v) → depth_at core.shape v ≤ depth_at core.shape u) → UnitHasRoom core u
-deepest_has_room core bag u deeper wide p none most_deep v h =
-    let r = p.room v h in
+pub deepest_has_room : (core : CoreView) (bag : List Live) (u : ℕ) → IsGoodShape core.shape → 1 ≤ core.width → IsPlaced core bag → core.outs ≡ [] → ((v : ℕ) → v < length core.shape.units → 0 < length (waiting_at core v) → depth_at core.shape v ≤ depth_at core.shape u) → UnitHasRoom core u
+deepest_has_room core bag u good wide p none most_deep v =
+    let r = p.room v in
     let reserves = ap (λ (os : List Pending). reserved core.shape os v) none in
     elim (zero_or (need core.shape u v)) [
       | inl z ↦ omega (arith, r, z)
       | inr some ↦ (
-        let below = deeper u v h some in
+        let below = needs_deeper core.shape u v good some in
         let used = used_at core bag p none v in
         let least = needs_no_more core.shape u v in
         let wider = times_one core.width (most core.shape v) wide in
         elim (zero_or (length (waiting_at core v))) [
           | inl e ↦ omega (arith, used, e, least, wider, reserves)
-          | inr w ↦ (let d = most_deep v h w in absurd (omega (arith, d, below)))
+          | inr w ↦ (let d = most_deep v (needed_within core.shape u v good some) w in absurd (omega (arith, d, below)))
         ]
       )
     ]
@@ -108,13 +111,13 @@ by_unit_at handed w (suc n) zero bag h = let e : w ≡ w + 0 = omega arith in ap
 by_unit_at handed w (suc n) (suc k) bag h = let e : w + 1 + k ≡ w + suc k = omega arith in by_unit_at handed (w + 1) n k bag (omega arith) ∙ ap (λ (v : ℕ). filter (in_slot handed v) bag) e
 
 -- with no launch out and a bag that is not empty, some unit that waits has room, or else the next entry has
-pub never_blocks : (core : CoreView) (bag : List Live) → NeedsDeeper core.shape → 1 ≤ core.width → IsPlaced core bag → core.outs ≡ [] → bag ≢ [] → NoPick core → CanEnter core
-never_blocks core bag deeper wide p none some unpicked =
+pub never_blocks : (core : CoreView) (bag : List Live) → IsGoodShape core.shape → 1 ≤ core.width → IsPlaced core bag → core.outs ≡ [] → bag ≢ [] → NoPick core → CanEnter core
+never_blocks core bag good wide p none some unpicked =
     elim (deepest core (length core.shape.units)) [
-      | inl d ↦ absurd (unpicked d.0 d.1.waits (deepest_has_room core bag d.0 deeper wide p none d.1.deep))
+      | inl d ↦ absurd (unpicked d.0 d.1.waits (deepest_has_room core bag d.0 good wide p none d.1.deep))
       | inr quiet ↦ record {
         some = first (ap (λ (os : List Pending). filter (is_entry core.handed) (unopened os bag)) none) p.known quiet some;
-        room = deepest_has_room core bag (first_unit core.entries) deeper wide p none (λ v h w. let z = quiet v h in absurd (omega (arith, z, w)));
+        room = deepest_has_room core bag (first_unit core.entries) good wide p none (λ v h w. let z = quiet v h in absurd (omega (arith, z, w)));
       }
     ]
   where

@@ -15,11 +15,12 @@ use Rattle.wg_machine.specs.Step.{Passed, left_after, is_among}
 use Rattle.wg_machine.specs.Units.{stride_at, kind_at, words_at}
 use Rattle.wg_machine.specs.Bytes.{live_bytes, peak as peak_of, least}
 use Rattle.wg_machine.specs.Grids.{grid_of, groups_of, without_group, same_group}
-use Rattle.wg_core.specs.Standing.{EachFull, IsFull, has_one_group, origin, by_unit, counts, in_slot, EachKnown, EachHasWords}
+use Rattle.wg_core.specs.Standing.{EachFull, IsFull, IsWithin, has_one_group, origin, by_unit, counts, in_slot, EachKnown, EachHasWords}
 use Rattle.wg_machine.specs.Need.{need, most}
 use Rattle.wg_machine.specs.LaunchMeaning.{Arrives}
 use Rattle.wg_core.specs.Moves.{bytes_of, used_more}
 use Rattle.wg_words.specs.Each.{Each}
+use Rattle.wg_core.proofs.Grids.{within_grid}
 use Rattle.wg_core.proofs.Commute.{live_with, ran}
 use Rattle.wg_core.proofs.Counting.{count_cons, count_append, pay}
 use Rattle.wg_core.proofs.Still.{in_range, within_range}
@@ -63,11 +64,11 @@ count_born shape handed w n (s ∷ ss) =
 
 pub known_born : (shape : Shape) (n : ℕ) (ss : List Sent) → Each (Arrives shape) ss → EachKnown (length shape.units) (flat_map kept (born shape n ss))
 known_born shape n [] all = tt
-known_born shape n (s ∷ ss) all = go (groups_of (grid_of (kind_at shape s.unit) s.words)) (known_born shape (n + 1) ss all.2)
+known_born shape n (s ∷ ss) all = go (groups_of (grid_of (kind_at shape s.unit) s.words)) (known_born shape (n + 1) ss all.1)
   where
     go : (gs : List (List ℕ)) → EachKnown (length shape.units) (flat_map kept (born shape (n + 1) ss)) → EachKnown (length shape.units) (kept (live_with n s.unit s.words gs) ++ flat_map kept (born shape (n + 1) ss))
     go [] k = k
-    go (g ∷ gs) k = (all.0, k)
+    go (g ∷ gs) k = (all.0.unit, k)
 
 abbrev pub slot_bytes : Shape → ℕ → Live → ℕ
 slot_bytes shape handed x = pay (nat_le handed x.number) (stride_at shape x.unit)
@@ -123,33 +124,21 @@ pub peak_more : (shape : Shape) (handed : ℕ) (s : State) (ps : List Passed) (p
 peak_more shape handed s [] p = refl
 peak_more shape handed s (q ∷ ps) p = let ih = peak_more shape handed q.after ps p in omega (arith, ih)
 
-times_le : (a b c : ℕ) → a ≤ b → a * c ≤ b * c
-times_le a b c h = grind arith
-
-spread : (w m s r : ℕ) → w * (m * s + r) ≡ w * m * s + w * r
-spread w m s r = grind arith
-
--- slots within the plan have bytes within the plan
-pub bytes_fit : (shape : Shape) (width v n : ℕ) (used : List ℕ) → length used ≡ n → ((k : ℕ) → k < n → slice_index used k ≤ width * most shape (v + k)) → bytes_of shape v used ≤ width * sum_by (λ w. most shape w * stride_at shape w) (range_with_len v n)
-bytes_fit shape width v n [] e h = omega arith
-bytes_fit shape width v zero (u ∷ used) e h = absurd (omega arith)
-bytes_fit shape width v (suc n) (u ∷ used) e h =
-    let z : v + 0 ≡ v = omega arith in
-    let first : u ≤ width * most shape v = subst (λ (w : ℕ). u ≤ width * most shape w) z (h 0 (omega arith)) in
-    let m : u * stride_at shape v ≤ width * most shape v * stride_at shape v = times_le u (width * most shape v) (stride_at shape v) first in
-    let ih = bytes_fit shape width (v + 1) n used (omega arith) (λ k l. let q : v + 1 + k ≡ v + suc k = omega arith in rw q (h (suc k) (omega arith))) in
-    let c = sum_by-cons (λ w. most shape w * stride_at shape w) v (range_with_len (v + 1) n) in
-    let d : width * (most shape v * stride_at shape v + sum_by (λ w. most shape w * stride_at shape w) (range_with_len (v + 1) n)) ≡ width * most shape v * stride_at shape v + width * sum_by (λ w. most shape w * stride_at shape w) (range_with_len (v + 1) n) = spread width (most shape v) (stride_at shape v) (sum_by (λ w. most shape w * stride_at shape w) (range_with_len (v + 1) n)) in
-    let f = ap (λ (k : ℕ). width * k) c in
-    omega (arith, m, ih, d, f)
-
 pub full_append : (shape : Shape) (xs ys : List Live) → EachFull shape xs → EachFull shape ys → EachFull shape (xs ++ ys)
 full_append shape [] ys a b = b
 full_append shape (x ∷ xs) ys a b = (a.0, full_append shape xs ys a.1 b)
 
-full_one : (shape : Shape) (number unit : ℕ) (words : List ℕ) (gs : List (List ℕ)) (rest : List Live) → (has_one_group (kind_at shape unit) ≡ true → 0 < length gs → gs ≡ origin ∷ []) → EachFull shape rest → EachFull shape (kept (live_with number unit words gs) ++ rest)
-full_one shape number unit words [] rest h f = f
-full_one shape number unit words (g ∷ gs) rest h f = (record { some = omega arith; whole = λ e. h e (omega arith) }, f)
+full_one : (shape : Shape) (number unit : ℕ) (words : List ℕ) (gs : List (List ℕ)) (rest : List Live) → (has_one_group (kind_at shape unit) ≡ true → 0 < length gs → gs ≡ origin ∷ []) → Each (IsWithin (grid_of (kind_at shape unit) words)) gs → EachFull shape rest → EachFull shape (kept (live_with number unit words gs) ++ rest)
+full_one shape number unit words [] rest h w f = f
+full_one shape number unit words (g ∷ gs) rest h w f = (record { some = omega arith; whole = λ e. h e (omega arith); within = w }, f)
+
+within_without : (grid at : List ℕ) (gs : List (List ℕ)) → Each (IsWithin grid) gs → Each (IsWithin grid) (without_group at gs)
+within_without grid at [] w = tt
+within_without grid at (g ∷ gs) w = choice (within_without grid at gs w.1) (same_group g at)
+  where
+    choice : Each (IsWithin grid) (without_group at gs) → (b : Bool) → Each (IsWithin grid) (if b then gs else g ∷ without_group at gs)
+    choice ih true = w.1
+    choice ih false = (w.0, ih)
 
 without_origin : (at : List ℕ) → 0 < length (without_group at (origin ∷ [])) → without_group at (origin ∷ []) ≡ origin ∷ []
 without_origin at h = choice (same_group origin at) h
@@ -163,7 +152,7 @@ full_left shape nums at [] f = tt
 full_left shape nums at (x ∷ bag) f = choice (full_left shape nums at bag f.1) (is_among nums x.number)
   where
     choice : EachFull shape (left_after nums at bag) → (b : Bool) → EachFull shape (ran b at x ++ left_after nums at bag)
-    choice ih true = full_one shape x.number x.unit x.words (without_group at x.groups) (left_after nums at bag) (λ e h. (let q = f.0.whole e in let h' = subst (λ (gs : List (List ℕ)). 0 < length (without_group at gs)) q h in ap (without_group at) q ∙ without_origin at h')) ih
+    choice ih true = full_one shape x.number x.unit x.words (without_group at x.groups) (left_after nums at bag) (λ e h. (let q = f.0.whole e in let h' = subst (λ (gs : List (List ℕ)). 0 < length (without_group at gs)) q h in ap (without_group at) q ∙ without_origin at h')) (within_without (grid_of (kind_at shape x.unit) x.words) at x.groups f.0.within) ih
     choice ih false = (f.0, ih)
 
 one_grid : (k : Kind) (words : List ℕ) → has_one_group k ≡ true → groups_of (grid_of k words) ≡ origin ∷ []
@@ -174,7 +163,7 @@ one_grid (GridField f n x y z) words e = absurd (cc)
 
 pub full_born : (shape : Shape) (n : ℕ) (ss : List Sent) → EachFull shape (flat_map kept (born shape n ss))
 full_born shape n [] = tt
-full_born shape n (s ∷ ss) = full_one shape n s.unit s.words (groups_of (grid_of (kind_at shape s.unit) s.words)) (flat_map kept (born shape (n + 1) ss)) (λ e h. one_grid (kind_at shape s.unit) s.words e) (full_born shape (n + 1) ss)
+full_born shape n (s ∷ ss) = full_one shape n s.unit s.words (groups_of (grid_of (kind_at shape s.unit) s.words)) (flat_map kept (born shape (n + 1) ss)) (λ e h. one_grid (kind_at shape s.unit) s.words e) (within_grid (grid_of (kind_at shape s.unit) s.words)) (full_born shape (n + 1) ss)
 
 pub words_append : (shape : Shape) (xs ys : List Live) → EachHasWords shape xs → EachHasWords shape ys → EachHasWords shape (xs ++ ys)
 words_append shape [] ys a b = b
@@ -194,4 +183,4 @@ words_left shape nums at (x ∷ bag) f = choice (words_left shape nums at bag f.
 
 pub words_born : (shape : Shape) (n : ℕ) (ss : List Sent) → Each (Arrives shape) ss → EachHasWords shape (flat_map kept (born shape n ss))
 words_born shape n [] a = tt
-words_born shape n (s ∷ ss) a = words_one shape n s.unit s.words (groups_of (grid_of (kind_at shape s.unit) s.words)) (flat_map kept (born shape (n + 1) ss)) a.1 (words_born shape (n + 1) ss a.2)
+words_born shape n (s ∷ ss) a = words_one shape n s.unit s.words (groups_of (grid_of (kind_at shape s.unit) s.words)) (flat_map kept (born shape (n + 1) ss)) a.0.words (words_born shape (n + 1) ss a.1)

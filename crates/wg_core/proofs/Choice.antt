@@ -1,6 +1,6 @@
 -- The launch that is chosen is one that what is unopened allows.
 use Rattle.std.proofs.Common.{◌≡◌, ℕ, zero, suc, ◌+◌, ◌<◌, ◌≤◌, Bool, true, false, ◌||◌, List, [], ◌∷◌, ◌++◌, length, map, refl, ap, sym, ◌∙◌, subst, arith, inl, inr, ◌⊎◌, Some, unwrap_or}
-use Rattle.std.specs.Prelude.{if◌then◌else◌, ◌==◌, ◌&&◌, filter, Contains, take, take_while, slice_get, slice_index_or, ⊤}
+use Rattle.std.specs.Prelude.{if◌then◌else◌, ◌==◌, ◌&&◌, filter, take, take_while, slice_get, ⊤}
 use Rattle.std.specs.List.{prefix_len}
 use Rattle.std.proofs.lemmas.Bool.Decides.{nat_tests, Decides-eqb}
 use Rattle.wg_machine.specs.declared.launch.Live.{Live}
@@ -10,10 +10,11 @@ use Rattle.wg_machine.specs.declared.shape.Kind.{Kind}
 use Rattle.wg_machine.specs.declared.shape.Shape.{Shape}
 use Rattle.wg_machine.specs.Step.{is_among, taken, record_of, numbers_of, IsReady, Allows}
 use Rattle.wg_machine.specs.Units.{kind_at, most_inputs}
-use Rattle.wg_machine.specs.Grids.{grid_of}
+use Rattle.wg_machine.specs.Grids.{grid_of, has_group}
 use Rattle.wg_core.specs.Standing.{Rises, IsFull, EachFull, origin, has_one_group}
 use Rattle.wg_core.specs.Choice.{chosen, first_group, first_words, launch_from}
 use Rattle.wg_words.specs.Each.{Each}
+use Rattle.wg_core.proofs.Allowed.{has_here, same_self}
 use Rattle.wg_core.proofs.Rising.{numbers}
 use Rattle.wg_core.proofs.Outs.{numbers_taken}
 
@@ -98,20 +99,20 @@ all_of : (shape : Shape) (u : ℕ) (xs : List Live) → AllAt u xs → EachFull 
 all_of shape u [] a f = tt
 all_of shape u (x ∷ xs) a f = (a.0, f.0.some, λ e. f.0.whole (subst (λ (n : ℕ). has_one_group (kind_at shape n) ≡ true) (sym a.0) e), all_of shape u xs a.1 f.1)
 
-head_in : (gs : List (List ℕ)) → 0 < length gs → Contains gs (unwrap_or (slice_get gs 0) [])
-head_in [] h = absurd (omega arith)
-head_in (g ∷ gs) h = (0, omega arith, refl)
+has_first : (gs : List (List ℕ)) → 0 < length gs → has_group gs (unwrap_or (slice_get gs 0) []) ≡ true
+has_first [] h = absurd (omega arith)
+has_first (g ∷ gs) h = has_here g g gs (same_self g)
 
 origins_ready : (u : ℕ) (k : Kind) (m : ℕ) (xs : List Live) → has_one_group k ≡ true → AllOf u k xs → Each (IsReady u origin) (take m xs)
 origins_ready u k zero xs e a = tt
 origins_ready u k (suc m) [] e a = tt
 origins_ready u k (suc m) (x ∷ xs) e a =
-    (record { unit_is = a.0; group_is = subst (λ (gs : List (List ℕ)). Contains gs origin) (sym (a.2 e)) (0, omega arith, refl) }, origins_ready u k m xs e a.3)
+    (record { unit_is = a.0; group_is = subst (λ (gs : List (List ℕ)). has_group gs origin ≡ true) (sym (a.2 e)) refl }, origins_ready u k m xs e a.3)
 
-first_ready : (u : ℕ) (k : Kind) (x : Live) (xs : List Live) → AllOf u k (x ∷ xs) → AllReady u (first_group (x ∷ xs)) (take 1 (x ∷ xs))
-first_ready u k x xs a = (record { unit_is = a.0; group_is = head_in x.groups a.1 }, tt)
+first_ready : (u : ℕ) (k : Kind) (x : Live) (xs : List Live) → AllOf u k (x ∷ xs) → Each (IsReady u (first_group (x ∷ xs))) (take 1 (x ∷ xs))
+first_ready u k x xs a = (record { unit_is = a.0; group_is = has_first x.groups a.1 }, tt)
 
-ready_from : (u : ℕ) (k : Kind) (x : Live) (xs : List Live) → AllOf u k (x ∷ xs) → AllReady u (first_group (x ∷ xs)) (take (most_inputs k) (x ∷ xs))
+ready_from : (u : ℕ) (k : Kind) (x : Live) (xs : List Live) → AllOf u k (x ∷ xs) → Each (IsReady u (first_group (x ∷ xs))) (take (most_inputs k) (x ∷ xs))
 ready_from u Thread x xs a = first_ready u Thread x xs a
 ready_from u (Coalescing m) x xs a =
     let e : origin ≡ first_group (x ∷ xs) = sym (ap (λ (gs : List (List ℕ)). unwrap_or (slice_get gs 0) []) (a.2 refl)) in
@@ -119,18 +120,15 @@ ready_from u (Coalescing m) x xs a =
 ready_from u (Grid p q r) x xs a = first_ready u (Grid p q r) x xs a
 ready_from u (GridField f n p q r) x xs a = first_ready u (GridField f n p q r) x xs a
 
-one_in : (r s : Record) → Contains (r ∷ []) s → r ≡ s
-one_in r s c = go c.0 c.1 c.2
-  where
-    go : (k : ℕ) → k < 1 → slice_index_or (r ∷ []) k s ≡ s → r ≡ s
-    go zero h e = e
-    go (suc k) h e = absurd (omega arith)
+all_same : (m : ℕ) (words : List ℕ) (xs : List Live) → Each (λ (r : Record). grid_of (Coalescing m) words ≡ grid_of (Coalescing m) r.words) (map record_of xs)
+all_same m words [] = tt
+all_same m words (x ∷ xs) = (refl, all_same m words xs)
 
-grid_from : (k : Kind) (x : Live) (xs : List Live) (r : Record) → Contains (map record_of (take (most_inputs k) (x ∷ xs))) r → grid_of k x.words ≡ grid_of k r.words
-grid_from Thread x xs r c = refl
-grid_from (Coalescing m) x xs r c = refl
-grid_from (Grid p q s) x xs r c = refl
-grid_from (GridField f n p q s) x xs r c = ap (λ (y : Record). grid_of (GridField f n p q s) y.words) (one_in (record_of x) r c)
+grid_from : (k : Kind) (x : Live) (xs : List Live) → Each (λ (r : Record). grid_of k x.words ≡ grid_of k r.words) (map record_of (take (most_inputs k) (x ∷ xs)))
+grid_from Thread x xs = (refl, tt)
+grid_from (Coalescing m) x xs = all_same m x.words (take m (x ∷ xs))
+grid_from (Grid p q s) x xs = (refl, tt)
+grid_from (GridField f n p q s) x xs = (refl, tt)
 
 length_some : (m : ℕ) (x : Live) (xs : List Live) → 1 ≤ m → 1 ≤ length (map record_of (take m (x ∷ xs)))
 length_some zero x xs h = absurd (omega arith)
@@ -153,7 +151,8 @@ allowed_from shape u lo end (x ∷ xs) ready s r f a h m =
       records = sym (ap (map record_of) t);
       some = length_some (most_inputs k) x xs m;
       few = length_few (most_inputs k) (x ∷ xs);
-      ready = subst (AllReady u (first_group (x ∷ xs))) (sym t) (ready_from u k x xs all);
-      grid = λ q c. grid_from k x xs q c;
+      ready = subst (Each (IsReady u (first_group (x ∷ xs)))) (sym t) (ready_from u k x xs all);
+      grid = grid_from k x xs;
       group = refl;
+      last = refl;
     }

@@ -11,7 +11,9 @@ use Rattle.wg_machine.specs.Units.{kind_at, most_inputs}
 use Rattle.wg_core.specs.Outs.{unopened, after_one, numbers_out}
 use Rattle.wg_core.specs.Standing.{EachFull, IsPlaced, by_unit, in_slot, is_entry}
 use Rattle.wg_core.specs.Core.{CoreView}
-use Rattle.wg_core.specs.Choice.{IsChoice, UnitHasRoom, waiting_at, next_entries, first_unit}
+use Rattle.wg_core.specs.Choice.{IsChoice, from_slots, from_entries, UnitHasRoom, waiting_at, next_entries, first_unit}
+use Rattle.wg_core.proofs.Shapes.{takes_some}
+use Rattle.wg_machine.specs.GoodShape.{IsGoodShape}
 use Rattle.wg_core.proofs.Choice.{IsSub, AllAt, sub_filter, sub_while, allowed_from}
 use Rattle.wg_core.proofs.Rising.{rises_unopened}
 use Rattle.wg_core.proofs.Bytes.{full_left}
@@ -58,15 +60,15 @@ pub record IsFine (core : CoreView) (bag : List Live) (o : Pending) : Type 0 whe
   pub ticket : o.ticket ≡ core.tickets
   pub inputs : o.inputs ≡ numbers_out o
 
-pub choice_fine : (core : CoreView) (bag : List Live) (o : Pending) → TakesSome core.shape → IsPlaced core bag → IsChoice core o → IsFine core bag o
-choice_fine core bag o some p (from_slots u pick) =
+pub choice_fine : (core : CoreView) (bag : List Live) (o : Pending) → IsGoodShape core.shape → IsPlaced core bag → IsChoice core o → IsFine core bag o
+choice_fine core bag o good p (from_slots u pick) =
     let n = length core.shape.units in
     let ready = unopened core.outs bag in
     let within : u < n = let a = pick.within in let b = ap (λ (ws : List (List Live)). length ws) p.waits in let c = length_by_unit core.handed 0 n ready in omega (arith, a, b, c) in
     let z : 0 + u ≡ u = omega arith in
     let waits : waiting_at core u ≡ filter (in_slot core.handed u) ready = ap (λ (ws : List (List Live)). unwrap_or (slice_get ws u) []) p.waits ∙ by_unit_at core.handed 0 n u ready within ∙ ap (λ (v : ℕ). filter (in_slot core.handed v) ready) z in
     record {
-      allowed = allowed_from core.shape u 0 core.next (waiting_at core u) ready (subst (λ (xs : List Live). IsSub xs ready) (sym waits) (sub_filter (in_slot core.handed u) ready)) (rises_unopened 0 core.next core.outs bag p.rises) (full_unopened core.shape core.outs bag p.full) (subst (AllAt u) (sym waits) (slots_at core.handed u ready)) pick.waits (some u);
+      allowed = allowed_from core.shape u 0 core.next (waiting_at core u) ready (subst (λ (xs : List Live). IsSub xs ready) (sym waits) (sub_filter (in_slot core.handed u) ready)) (rises_unopened 0 core.next core.outs bag p.rises) (full_unopened core.shape core.outs bag p.full) (subst (AllAt u) (sym waits) (slots_at core.handed u ready)) pick.waits (takes_some core.shape good u);
       room = pick.room;
       ticket = refl;
       inputs = refl;
@@ -75,13 +77,13 @@ choice_fine core bag o some p (from_slots u pick) =
     length_by_unit : (handed v n : ℕ) (xs : List Live) → length (by_unit handed v n xs) ≡ n
     length_by_unit handed v zero xs = refl
     length_by_unit handed v (suc n) xs = ap suc (length_by_unit handed (v + 1) n xs)
-choice_fine core bag o some p (from_entries unpicked there room) =
+choice_fine core bag o good p (from_entries unpicked enters) =
     let ready = unopened core.outs bag in
     let u = first_unit core.entries in
     let sub : IsSub core.entries ready = subst (λ (xs : List Live). IsSub xs ready) (sym p.entries) (sub_filter (is_entry core.handed) ready) in
     record {
-      allowed = allowed_from core.shape u 0 core.next (next_entries core) ready (sub_while (λ (x : Live). x.unit == u) core.entries ready sub) (rises_unopened 0 core.next core.outs bag p.rises) (full_unopened core.shape core.outs bag p.full) (prefix_at u core.entries) (prefix_some core.entries there) (some u);
-      room = room;
+      allowed = allowed_from core.shape u 0 core.next (next_entries core) ready (sub_while (λ (x : Live). x.unit == u) core.entries ready sub) (rises_unopened 0 core.next core.outs bag p.rises) (full_unopened core.shape core.outs bag p.full) (prefix_at u core.entries) (prefix_some core.entries enters.some) (takes_some core.shape good u);
+      room = enters.room;
       ticket = refl;
       inputs = refl;
     }

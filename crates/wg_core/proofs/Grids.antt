@@ -10,7 +10,8 @@ use Rattle.wg_machine.specs.Run.{times}
 use Rattle.wg_machine.specs.Grids.{same_group, groups_of, grid_of}
 use Rattle.wg_machine.specs.Units.{kind_at}
 use Rattle.wg_machine.specs.State.{kept, born}
-use Rattle.wg_core.specs.Standing.{EachDistinct}
+use Rattle.wg_core.specs.Standing.{EachDistinct, IsWithin}
+use Rattle.wg_words.specs.Each.{Each}
 use Rattle.wg_core.proofs.Commute.{live_with}
 use Rattle.wg_core.proofs.Opening.{times_cons}
 use Rattle.wg_core.proofs.Counting.{pay, count_append}
@@ -72,3 +73,23 @@ distinct_born shape n (s ∷ ss) = go (groups_of (grid_of (kind_at shape s.unit)
     go : (gs : List (List ℕ)) → ((at : List ℕ) → times at gs ≤ 1) → EachDistinct (flat_map kept (born shape (n + 1) ss)) → EachDistinct (kept (live_with n s.unit s.words gs) ++ flat_map kept (born shape (n + 1) ss))
     go [] t d = d
     go (g ∷ gs) t d = (t, d)
+
+each_append : {X : Type 0} → (P : X → Type 0) (xs ys : List X) → Each P xs → Each P ys → Each P (xs ++ ys)
+each_append P [] ys a b = b
+each_append P (x ∷ xs) ys a b = (a.0, each_append P xs ys a.1 b)
+
+each_mapped : (P : List ℕ → Type 0) (g : ℕ → List ℕ) (s n : ℕ) → ((x : ℕ) → s ≤ x → x < s + n → P (g x)) → Each P (map g (range_with_len s n))
+each_mapped P g s zero h = tt
+each_mapped P g s (suc n) h = (h s (omega arith) (omega arith), each_mapped P g (s + 1) n (λ x low high. h x (omega arith) (omega arith)))
+
+each_flat : (P : List ℕ → Type 0) (f : ℕ → List (List ℕ)) (s n : ℕ) → ((y : ℕ) → s ≤ y → y < s + n → Each P (f y)) → Each P (flat_map f (range_with_len s n))
+each_flat P f s zero h = tt
+each_flat P f s (suc n) h = each_append P (f s) (flat_map f (range_with_len (s + 1) n)) (h s (omega arith) (omega arith)) (each_flat P f (s + 1) n (λ y low high. h y (omega arith) (omega arith)))
+
+-- each group of a grid is within it
+pub within_grid : (grid : List ℕ) → Each (IsWithin grid) (groups_of grid)
+within_grid grid =
+    each_flat (IsWithin grid) _ 0 (slice_index grid 2) (λ z low_z high_z.
+      each_flat (IsWithin grid) _ 0 (slice_index grid 1) (λ y low_y high_y.
+        each_mapped (IsWithin grid) (λ x. x ∷ y ∷ z ∷ []) 0 (slice_index grid 0) (λ x low_x high_x.
+          record { x = omega arith; y = omega arith; z = omega arith })))

@@ -1,21 +1,20 @@
-
-
-
-
-
-
-
-
-
-
-
-
-
-
-
-
-
-
-
-
-
+pub mod Allowed
+pub mod Begun
+pub mod Blocks
+pub mod Bytes
+pub mod Choice
+pub mod Chosen
+pub mod Commute
+pub mod Counting
+pub mod Fitting
+pub mod Fronts
+pub mod Grids
+pub mod Lists
+pub mod OutMore
+pub mod Opening
+pub mod Outs
+pub mod Rising
+pub mod OutLess
+pub mod Shapes
+pub mod Slots
+pub mod Still

@@ -1,6 +1,6 @@
 -- A launch that what is not yet opened allows is one that the bag allows, apart from those that are out.
 use Rattle.std.proofs.Common.{◌≡◌, ℕ, zero, suc, ◌+◌, ◌<◌, ◌≤◌, Bool, true, false, ◌||◌, cond, List, [], ◌∷◌, ◌++◌, length, map, refl, ap, sym, ◌∙◌, subst, arith, inl, inr, ◌⊎◌}
-use Rattle.std.specs.Prelude.{if◌then◌else◌, ◌==◌, ◌&&◌, filter, Contains, slice_index_or}
+use Rattle.std.specs.Prelude.{if◌then◌else◌, ◌==◌, ◌&&◌, filter}
 use Rattle.std.proofs.lemmas.Bool.Decides.{nat_tests, Decides-eqb}
 use Rattle.std.proofs.lemmas.List.Sums.{sum_by-cons}
 use Rattle.wg_core.specs.declared.pending.Pending.{Pending}
@@ -9,59 +9,58 @@ use Rattle.wg_machine.specs.declared.launch.Record.{Record}
 use Rattle.wg_machine.specs.declared.shape.Shape.{Shape}
 use Rattle.wg_machine.specs.State.{kept}
 use Rattle.wg_machine.specs.Step.{left_after, is_among, taken, record_of, numbers_of, IsReady, Allows}
-use Rattle.wg_machine.specs.Grids.{without_group, same_group}
+use Rattle.wg_machine.specs.Grids.{without_group, same_group, has_group}
 use Rattle.wg_machine.specs.Run.{times}
 use Rattle.wg_core.specs.Outs.{numbers_out, after_one, unopened, IsApart, ApartFromAll, AllApart, AllAllowed}
 use Rattle.wg_core.specs.Standing.{Rises, EachDistinct}
 use Rattle.wg_words.specs.Each.{Each}
 use Rattle.wg_core.proofs.Commute.{append_nil, live_with, ran, left_append, same_as}
-use Rattle.wg_core.proofs.Allowed.{contains_cases, contains_more, same_self, same_sym, taken_append, taken_kept_not, taken_ran_not}
+use Rattle.wg_core.proofs.Allowed.{has_cases, has_here, has_more, same_self, same_sym, taken_append, taken_kept_not, taken_ran_not}
 use Rattle.wg_core.proofs.Rising.{rises_left, numbers, among_none, among_first, among_kept, among_ran}
 
 pub times_cons : (at g : List ℕ) (gs : List (List ℕ)) → times at (g ∷ gs) ≡ (if same_group g at then 1 else 0) + times at gs
 times_cons at g gs = sum_by-cons (λ (h : List ℕ). cond (same_group h at) 1 0) g gs
 
-contains_times : (at : List ℕ) (gs : List (List ℕ)) → Contains gs at → 1 ≤ times at gs
-contains_times at [] c = absurd (omega (arith, c.1))
-contains_times at (g ∷ gs) c = choice (λ d. contains_times at gs d) (contains_cases g at gs c.0 c.1 c.2)
+has_times : (at : List ℕ) (gs : List (List ℕ)) → has_group gs at ≡ true → 1 ≤ times at gs
+has_times at [] c = absurd (cc)
+has_times at (g ∷ gs) c = choice (λ d. has_times at gs d) (has_cases g at gs c)
   where
-    choice : (Contains gs at → 1 ≤ times at gs) → (g ≡ at) ⊎ Contains gs at → 1 ≤ times at (g ∷ gs)
-    choice ih (inl q) =
-        let e : same_group g at ≡ true = subst (λ (x : List ℕ). same_group g x ≡ true) q (same_self g) in
+    choice : (has_group gs at ≡ true → 1 ≤ times at gs) → (same_group g at ≡ true) ⊎ (has_group gs at ≡ true) → 1 ≤ times at (g ∷ gs)
+    choice ih (inl e) =
         let t = times_cons at g gs in
         let t' = subst (λ (b : Bool). times at (g ∷ gs) ≡ (if b then 1 else 0) + times at gs) e t in omega (arith, t')
     choice ih (inr d) = let k = ih d in let t = times_cons at g gs in omega (arith, t, k)
 
 -- what another group leaves was there
-without_back : (at other : List ℕ) (gs : List (List ℕ)) → Contains (without_group other gs) at → Contains gs at
+without_back : (at other : List ℕ) (gs : List (List ℕ)) → has_group (without_group other gs) at ≡ true → has_group gs at ≡ true
 without_back at other [] c = c
 without_back at other (g ∷ gs) c = choice (λ d. without_back at other gs d) (same_group g other) c
   where
-    choice : (Contains (without_group other gs) at → Contains gs at) → (b : Bool) → Contains (if b then gs else g ∷ without_group other gs) at → Contains (g ∷ gs) at
-    choice ih true c = contains_more g at gs c
+    choice : (has_group (without_group other gs) at ≡ true → has_group gs at ≡ true) → (b : Bool) → has_group (if b then gs else g ∷ without_group other gs) at ≡ true → has_group (g ∷ gs) at ≡ true
+    choice ih true c = has_more g at gs c
     choice ih false c =
-        elim (contains_cases g at (without_group other gs) c.0 c.1 c.2) [
-          | inl q ↦ (0, omega arith, q)
-          | inr d ↦ contains_more g at gs (ih d)
+        elim (has_cases g at (without_group other gs) c) [
+          | inl q ↦ has_here g at gs q
+          | inr d ↦ has_more g at gs (ih d)
         ]
 
 -- in a record whose groups differ, what another group leaves is another one
-without_other : (at other : List ℕ) (gs : List (List ℕ)) → times at gs ≤ 1 → Contains (without_group other gs) at → same_group other at ≡ false
-without_other at other [] t c = absurd (omega (arith, c.1))
+without_other : (at other : List ℕ) (gs : List (List ℕ)) → times at gs ≤ 1 → has_group (without_group other gs) at ≡ true → same_group other at ≡ false
+without_other at other [] t c = absurd (cc)
 without_other at other (g ∷ gs) t c = choice (λ u d. without_other at other gs u d) (same_group g other) refl (same_group other at) refl c
   where
     fewer : times at gs ≤ 1
     fewer = let e = times_cons at g gs in omega (arith, e, t)
 
-    choice : (times at gs ≤ 1 → Contains (without_group other gs) at → same_group other at ≡ false) → (b : Bool) → same_group g other ≡ b → (d : Bool) → same_group other at ≡ d → Contains (if b then gs else g ∷ without_group other gs) at → d ≡ false
+    choice : (times at gs ≤ 1 → has_group (without_group other gs) at ≡ true → same_group other at ≡ false) → (b : Bool) → same_group g other ≡ b → (d : Bool) → same_group other at ≡ d → has_group (if b then gs else g ∷ without_group other gs) at ≡ true → d ≡ false
     choice ih b e false f c = refl
     choice ih true e true f c =
         let k : same_group g at ≡ true = sym (same_as g other at f) ∙ e in
-        let one = contains_times at gs c in
+        let one = has_times at gs c in
         let t' = subst (λ (b : Bool). times at (g ∷ gs) ≡ (if b then 1 else 0) + times at gs) k (times_cons at g gs) in absurd (omega (arith, one, t', t))
     choice ih false e true f c =
-        elim (contains_cases g at (without_group other gs) c.0 c.1 c.2) [
-          | inl q ↦ (let k : same_group g other ≡ true = subst (λ (x : List ℕ). same_group x other ≡ true) (sym q) (same_sym at other ∙ f) in absurd (cc))
+        elim (has_cases g at (without_group other gs) c) [
+          | inl q ↦ (let k : same_group g other ≡ true = same_as g other at f ∙ q in absurd (cc))
           | inr d ↦ (let k = ih fewer d in absurd (cc))
         ]
 
@@ -70,7 +69,7 @@ Covers nums lo rest = (n : ℕ) → is_among nums n ≡ true → lo ≤ n → is
 
 record WasOne (unit : ℕ) (at nums : List ℕ) (number u : ℕ) (words : List ℕ) (gs : List (List ℕ)) (rest : List Live) : Type 0 where
   unit_is : u ≡ unit
-  group_is : Contains gs at
+  group_is : has_group gs at ≡ true
   ready : Each (IsReady unit at) (taken nums rest)
   records : map record_of (taken nums (kept (live_with number u words gs) ++ rest)) ≡ record { number = number; words = words } ∷ map record_of (taken nums rest)
 

@@ -1,6 +1,6 @@
 -- Launches that are out, as one opens and one settles.
 use Rattle.std.proofs.Common.{◌≡◌, ℕ, zero, suc, ◌+◌, ◌<◌, ◌≤◌, Bool, true, false, ◌||◌, cond, List, [], ◌∷◌, ◌++◌, length, map, refl, ap, sym, ◌∙◌, subst, arith, inl, inr, ◌⊎◌}
-use Rattle.std.specs.Prelude.{if◌then◌else◌, ◌==◌, ◌&&◌, filter, Contains, slice_index_or}
+use Rattle.std.specs.Prelude.{if◌then◌else◌, ◌==◌, ◌&&◌, filter}
 use Rattle.std.proofs.lemmas.Bool.Decides.{nat_tests, Decides-eqb}
 use Rattle.std.proofs.lemmas.List.Sums.{sum_by-cons}
 use Rattle.wg_core.specs.declared.pending.Pending.{Pending}
@@ -37,7 +37,7 @@ pub was_allowed : (shape : Shape) (lo end : ℕ) (bag : List Live) (p o : Pendin
 was_allowed shape lo end bag p o z rises distinct a =
     let w = was o.launch.unit o.at (numbers_out o) p.at (numbers_out p) lo end bag rises distinct (λ n e h. allowed_among shape (after_one p bag) o a n e) a.ready in
     record {
-      allowed = record { records = a.records ∙ w.records; some = a.some; few = a.few; ready = w.ready; grid = a.grid; group = a.group };
+      allowed = record { records = a.records ∙ w.records; some = a.some; few = a.few; ready = w.ready; grid = a.grid; group = a.group; last = a.last };
       apart = λ n f e. w.apart n f e (allowed_among shape (after_one p bag) o a n e);
     }
 
@@ -139,6 +139,7 @@ allowed_born shape next end bag new o rises below a =
       ready = subst (Each (IsReady o.launch.unit o.at)) (sym q) a.ready;
       grid = a.grid;
       group = a.group;
+      last = a.last;
     }
 
 apart_sym : (p q : Pending) → IsApart p q → IsApart q p

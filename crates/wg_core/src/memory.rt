@@ -40,5 +40,5 @@ impl Memory for NoBuffers {
 
     ghost use Rattle.std.specs.Prelude.{refl};
 
-    ghost fits = { λ m. record { lengths = refl; log = tt } };
+    ghost fits = { λ m. record { lengths = refl; log = refl } };
 }

@@ -63,7 +63,7 @@ opened_placed core bag o ticket few room named s allowed =
       known = s.known;
       words = s.words;
       used = s.used;
-      room = λ v h. let r = room v h in let e = sum_by_push (λ (p : Pending). need core.shape p.launch.unit v) core.outs o in omega (arith, r, e);
+      room = λ v. let r = room v in let e = sum_by_push (λ (p : Pending). need core.shape p.launch.unit v) core.outs o in omega (arith, r, e);
     }
 
 pub opened_stands : (made : Meaning) (script : List Sent) (start : Buffers) (core : CoreView) (o : Pending) → core.stopped ≡ None → o.ticket ≡ core.tickets → length core.journal + length core.outs < core.limits.launches → UnitHasRoom core o.launch.unit → o.inputs ≡ numbers_out o → (s : StandsFor made script start core) → Allows core.shape (unopened core.outs s.state.bag) o.launch o.at → StandsFor made script start (with_out core o)
@@ -78,6 +78,6 @@ opened_stands made script start core o running ticket few room named s allowed =
       buffers = s.buffers;
       denied = s.denied;
       peak = s.peak;
-      peak_fits = s.peak_fits;
+      slots = s.slots;
       spent = subst (λ (t : Option ℕ). IfSome t (IsSpent made (with_out core o))) (sym running) tt;
     }

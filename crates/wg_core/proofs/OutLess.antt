@@ -23,13 +23,15 @@ use Rattle.wg_core.specs.Core.{CoreView}
 use Rattle.wg_core.specs.Moves.{TakesStep, settled_of, freed, is_still, all_more, used_more, bytes_of}
 use Rattle.wg_core.specs.Choice.{UnitHasRoom}
 use Rattle.wg_words.specs.Each.{Each}
+use Rattle.wg_core.proofs.Slots.{slots_kept, states_more}
+use Rattle.wg_machine.specs.Bytes.{KeepsSlots}
 use Rattle.wg_core.proofs.Commute.{unopened_append, unopened_settled, unopened_both, append_nil}
 use Rattle.wg_core.proofs.Rising.{rises_left, rises_append, rises_kept, rises_born, numbers}
 use Rattle.wg_core.proofs.Lists.{by_unit_append, those_append}
 use Rattle.wg_core.proofs.Outs.{allowed_settled, all_without, one_of, apart_settled, unopened_new, distinct_left, distinct_append, numbers_taken}
 use Rattle.wg_core.proofs.Counting.{count_left, count_gone, agrees, count_append, opposite, pay, empties, is_nil, EachAgrees}
 use Rattle.wg_core.proofs.Still.{still, bool_eq, known_left, known_append}
-use Rattle.wg_core.proofs.Bytes.{used_are, counts_more, count_born, known_born, bytes_are, peak_more, bytes_fit, full_append, full_left, full_born, words_append, words_left, words_born}
+use Rattle.wg_core.proofs.Bytes.{used_are, counts_more, count_born, known_born, bytes_are, peak_more, full_append, full_left, full_born, words_append, words_left, words_born}
 
 pub run_more : (shape : Shape) (made : Meaning) (turns : ℕ) (s : State) (js : List Entry) (ps : List Passed) (t : State) (e : Entry) (p : Passed) → IsRun shape made turns s js ps t → Step shape made turns t e p → IsRun shape made turns s (js ++ e ∷ []) (ps ++ p ∷ []) p.after
 run_more shape made turns s [] [] t e p run step = (subst (λ (u : State). Step shape made turns u e p) run step, refl)
@@ -160,13 +162,13 @@ settled_placed core bag before o later outcome was_out needs newly s =
       known = known_append n less fresh (known_left n nums o.at bag s.known) (known_born shape core.next sent needs.arrive);
       words = words_append shape less fresh (words_left shape nums o.at bag s.words) (words_born shape core.next sent needs.arrive);
       used = used;
-      room = λ v h. (
+      room = λ v. (
         let a = counts_more core.handed 0 n v (need shape o.launch.unit) bag (less ++ fresh) grows in
         let z : 0 + v ≡ v = omega arith in
         let a' = subst (λ (k : ℕ). slice_index (counts core.handed 0 n (less ++ fresh)) v ≤ slice_index (counts core.handed 0 n bag) v + need shape o.launch.unit k) z a in
         let b = ap (λ (us : List ℕ). slice_index us v) used in
         let c = ap (λ (us : List ℕ). slice_index us v) s.used in
-        let d = s.room v h in
+        let d = s.room v in
         let e = reserved_without shape v before o later in
         let f = ap (λ (os : List Pending). reserved shape os v) was_out in
         omega (arith, a', b, c, d, e, f)
@@ -186,7 +188,6 @@ settled_stands made script start core before o later outcome running was_out run
     let entry = entry_of o.launch o.at core.next outcome in
     let used = used_more core.handed 0 o.launch.unit (freed core o (before ++ later)) fresh core.used in
     let bytes : live_bytes shape core.handed after ≡ bytes_of shape 0 used = bytes_are shape core.handed after p.known ∙ ap (bytes_of shape 0) (sym p.used) in
-    let fits = bytes_fit shape core.width 0 n used (ap (λ (us : List ℕ). length us) p.used ∙ length_counts core.handed 0 n (less ++ fresh)) (λ k h. let r = p.room k h in let z : 0 + k ≡ k = omega arith in rw z (omega (arith, r))) in
     record {
       state = after;
       trail = s.trail ++ passed ∷ [];
@@ -202,6 +203,6 @@ settled_stands made script start core before o later outcome running was_out run
       buffers = refl;
       denied = let d = sum_by_push (λ (q : Passed). q.outcome.denied) s.trail passed in let e = s.denied in omega (arith, d, e);
       peak = (let a = peak_more shape core.handed (start_of shape script start) s.trail passed in let b = s.peak in ap (λ (k : ℕ). max k (bytes_of shape 0 used)) b ∙ ap (λ (k : ℕ). max (peak_of shape core.handed (start_of shape script start) s.trail) k) (sym bytes) ∙ sym a);
-      peak_fits = let q = s.peak_fits in omega (arith, q, fits);
+      slots = states_more (KeepsSlots shape core.width core.handed) (start_of shape script start) s.trail passed s.slots (slots_kept (settled_of core before o later outcome) (less ++ fresh) p);
       spent = subst (λ (t : Option ℕ). IfSome t (IsSpent made (settled_of core before o later outcome))) (sym running) tt;
     }

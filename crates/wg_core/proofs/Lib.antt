@@ -1,6 +1,7 @@
 pub mod Allowed
 pub mod Begun
 pub mod Blocks
+pub mod Bounds
 pub mod Bytes
 pub mod Choice
 pub mod Chosen
@@ -9,12 +10,15 @@ pub mod Counting
 pub mod Fitting
 pub mod Fronts
 pub mod Grids
+pub mod Keeping
 pub mod Lists
 pub mod OutMore
+pub mod Needing
 pub mod Opening
 pub mod Outs
 pub mod Rising
 pub mod OutLess
 pub mod Shapes
 pub mod Slots
+pub mod Slotting
 pub mod Still

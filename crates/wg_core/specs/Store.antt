@@ -24,10 +24,10 @@ use Rattle.wg_core.specs.Standing.{origin, reserved}
 abbrev pub AllThread : Shape → Type 0
 AllThread shape = Each (λ (u : Node). u.kind ≡ Thread) shape.units
 
--- a row of needs for each unit, and the slots of the plan by unit
-pub record IsNeeds (shape : Shape) (width : ℕ) (needs : Needs) : Type 0 where
-  pub rows : needs.rows.items ≡ map (λ (u : Node). map (need_of u) (range_with_len 0 (length shape.units))) shape.units
-  pub slots : needs.slots ≡ map (λ v. width * most shape v) (range_with_len 0 (length shape.units))
+-- a row of needs for each unit, and the greatest by target
+pub record IsNeeds (shape : Shape) (needs : Needs) : Type 0 where
+  pub rows : needs.rows ≡ map (λ (u : Node). map (need_of u) (range_with_len 0 (length shape.units))) shape.units
+  pub most : needs.most ≡ map (most shape) (range_with_len 0 (length shape.units))
 
 -- the lists of a store
 pub record Kept : Type 0 where

@@ -21,7 +21,7 @@ pub record IsStore (s : Inside) : Type 0 where
   pub good : IsGoodShape s.shape
   pub threads : AllThread s.shape
   pub narrow : s.width ≤ 64
-  pub needs : IsNeeds s.shape s.width s.needs
+  pub needs : IsNeeds s.shape s.needs
   pub all_used : length s.used.items ≡ length s.shape.units
   pub all_reserved : length s.reserved.items ≡ length s.shape.units
   -- what is used and reserved fits the slots

@@ -1,11 +1,11 @@
-ghost use Rattle.std.specs.Prelude.{◌≡◌, ◌≤◌, ◌<◌, ◌+◌, ◌*◌, ◌^◌, ◌++◌, ℕ, [], length, Some, IfOk, IsSome, IsTrue, ◌↔◌, OnOk, OnErr, slice_index, count_by, nat_le, vec_len, vec_capacity};
+ghost use Rattle.std.specs.Prelude.{◌≡◌, ◌≤◌, ◌<◌, ◌+◌, ◌*◌, ◌^◌, ◌++◌, ℕ, [], drop, length, Some, IfOk, IfSome, IsSome, slice_get, IsTrue, ◌↔◌, OnOk, OnErr, slice_index, count_by, nat_le, vec_len, vec_capacity};
 ghost use Rattle.wg_words.specs.Each.{Each};
 ghost use Rattle.wg_machine.specs.Bytes.{plan_bytes};
 ghost use Rattle.wg_machine.specs.GoodShape.{IsGoodShape};
-ghost use Rattle.wg_machine.specs.Units.{depth_at};
+ghost use Rattle.wg_machine.specs.Units.{depth_at, stride_at};
 ghost use Rattle.wg_core.specs.Moves.{bytes_of, used_more};
 ghost use Rattle.wg_core.specs.Standing.{in_slot};
-ghost use Rattle.wg_core.specs.Store.{AllThread, ArrivesIn, BestBelow, CanSettle, Chooses, ComesBefore, IsBare, KeptHasRoom, Settles, Takes, kept_begun, record_at, thread_born, thread_pending};
+ghost use Rattle.wg_core.specs.Store.{AllThread, ArrivesIn, BestBelow, CanSettle, Chooses, ComesBefore, IsBare, IsBestBelow, KeptHasRoom, Settles, Takes, kept_begun, record_at, thread_born, thread_pending};
 
 use crate::needs::{Needs, needs_of};
 use crate::pending::Pending;
@@ -33,8 +33,8 @@ pub struct Store {
     needs: Needs,
     waiting: Vec<Live>,
     entries: VecDeque<Live>,
-    used: Vec<u64>,
-    reserved: Vec<u64>,
+    used: Vec<u32>,
+    reserved: Vec<u32>,
 }
 
 impl Model for Store {
@@ -62,9 +62,9 @@ impl Store {
         requires narrow { width ≤ 64 }
         ensures { IfOk result (λ store. store ≡ kept_begun shape width entries) }
     {
-        let needs = needs_of(alloc, &shape, width)?;
+        let needs = needs_of(alloc, &shape)?;
         let handed = entries.len() as u64;
-        let entries = arrivals(alloc, 0, entries)?;
+        let entries = arrivals(alloc, 0, entries.as_slice())?;
         let used = Vec::from_elem(alloc, 0, shape.units.len())?;
         let reserved = Vec::from_elem(alloc, 0, shape.units.len())?;
         Ok(Store {
@@ -96,7 +96,7 @@ impl Store {
     pub fn planned(&self) -> u64
         ensures { result ≡ plan_bytes self.now.shape self.now.width }
     {
-        bytes_in(&self.shape, self.needs.slots.as_slice())
+        self.width * bytes_in(&self.shape, self.needs.most.as_slice())
     }
 
     /// Where the record of the next launch stands, if there is one.
@@ -106,12 +106,13 @@ impl Store {
         if let Some(at) = self.best() {
             return Some(Place::Waiting(at));
         }
-        let record = self.entries.front()?;
-        if self.has_room(record.unit) {
-            Some(Place::Entry)
-        } else {
-            None
+        let Some(entry) = self.entries.front() else {
+            return None;
+        };
+        if self.has_room(entry.unit) {
+            return Some(Place::Entry);
         }
+        None
     }
 
     // The first waiting record of the deepest unit with room, then of the least unit.
@@ -131,18 +132,27 @@ impl Store {
         ensures { BestBelow self.now (at + 1) result }
     {
         let record = &self.waiting[at];
-        if !self.has_room(record.unit) {
-            return best;
+        if self.has_room(record.unit) {
+            return Some(self.deeper(best, at));
         }
+        best
+    }
+
+    // The record at a place, whose unit has room, or the best so far.
+    fn deeper(&self, best: Option<usize>, at: usize) -> usize
+        requires within { at < length self.now.waiting }
+        requires room { IfSome (slice_get self.now.waiting at) (λ x. KeptHasRoom self.now x.unit) }
+        requires so_far { BestBelow self.now at best }
+        ensures { IsBestBelow self.now (at + 1) result }
+    {
         let Some(so_far) = best else {
-            return Some(at);
+            return at;
         };
-        let other = &self.waiting[so_far];
+        let (record, other) = (&self.waiting[at], &self.waiting[so_far]);
         if comes_before(&self.shape, record.unit, other.unit) {
-            Some(at)
-        } else {
-            Some(so_far)
+            return at;
         }
+        so_far
     }
 
     // Whether each unit has slots left for all that a launch of this one may send to it.
@@ -156,7 +166,8 @@ impl Store {
             row.as_slice(),
             self.used.as_slice(),
             self.reserved.as_slice(),
-            self.needs.slots.as_slice(),
+            self.needs.most.as_slice(),
+            self.width,
         )
     }
 
@@ -178,15 +189,13 @@ impl Store {
         requires room { KeptHasRoom self.old unit }
         ensures { Takes self.old self.new place unit }
     {
-        let row = &self.needs.rows[unit as usize];
+        let row = &self.needs.rows.as_slice()[unit as usize];
         reserve(self.reserved.as_mut_slice(), row.as_slice());
         match place {
             Place::Waiting(at) => {
                 let _ = self.waiting.remove(at);
             }
-            Place::Entry => {
-                let _ = self.entries.pop_front();
-            }
+            Place::Entry => drop_front(&mut self.entries),
         }
     }
 
@@ -203,16 +212,23 @@ impl Store {
         ensures ok { OnOk result (Settles self.old self.new pending.now next sent) }
         ensures err { OnErr result (self.new ≡ self.old) }
     {
-        let arrived = arrivals(alloc, next, sent)?;
-        self.waiting.reserve(arrived.len())?;
+        let mut arrived = arrivals(alloc, next, sent.as_slice())?;
+        let before = self.waiting.len();
+        self.waiting.append(&mut arrived)?;
         let unit = pending.launch.unit as usize;
         let gone = in_slots(pending.inputs.as_slice(), self.handed);
-        change(self.used.as_mut_slice(), self.handed, unit, gone, arrived.as_slice());
-        let row = &self.needs.rows[unit];
+        let arrived = &self.waiting[before..];
+        change(self.used.as_mut_slice(), self.handed, unit, gone, arrived);
+        let row = &self.needs.rows.as_slice()[unit];
         give_back(self.reserved.as_mut_slice(), row.as_slice());
-        move_in(&mut self.waiting, arrived);
         Ok(())
     }
+}
+
+fn drop_front(entries: &mut VecDeque<Live>)
+    ensures { entries.new.items ≡ drop 1 entries.old.items }
+{
+    let _ = entries.pop_front();
 }
 
 // Whether a launch of the unit is opened before one of the other: it is deeper, or as deep with the lesser number.
@@ -232,25 +248,26 @@ fn depth_of(shape: &Shape, unit: u32) -> u32
     }
 }
 
-// Whether the slots hold what is used, reserved and needed.
-fn fits(needs: &[u64], used: &[u64], reserved: &[u64], slots: &[u64]) -> bool
+// Whether the slots of so many launches hold what is used, reserved and needed.
+fn fits(needs: &[u32], used: &[u32], reserved: &[u32], most: &[u32], width: u64) -> bool
     requires used { length used.now ≡ length needs.now }
     requires reserved { length reserved.now ≡ length needs.now }
-    requires slots { length slots.now ≡ length needs.now }
-    requires small { (v : ℕ) → slice_index used.now v + slice_index reserved.now v + slice_index needs.now v < 2 ^ 64 }
-    ensures { IsTrue result ↔ ((v : ℕ) → slice_index used.now v + slice_index reserved.now v + slice_index needs.now v ≤ slice_index slots.now v) }
+    requires most { length most.now ≡ length needs.now }
+    requires narrow { width ≤ 64 }
+    ensures { IsTrue result ↔ ((v : ℕ) → v < length needs.now → slice_index used.now v + slice_index reserved.now v + slice_index needs.now v ≤ width * slice_index most.now v) }
 {
     for v in 0..needs.len() {
-        if used[v] + reserved[v] + needs[v] > slots[v] {
+        let wanted = u64::from(used[v]) + u64::from(reserved[v]) + u64::from(needs[v]);
+        if wanted > width * u64::from(most[v]) {
             return false;
         }
     }
     true
 }
 
-fn reserve(reserved: &mut [u64], needs: &[u64])
+fn reserve(reserved: &mut [u32], needs: &[u32])
     requires lengths { length needs.now ≡ length reserved.old }
-    requires small { (v : ℕ) → slice_index reserved.old v + slice_index needs.now v < 2 ^ 64 }
+    requires small { (v : ℕ) → slice_index reserved.old v + slice_index needs.now v < 2 ^ 32 }
     ensures { (v : ℕ) → slice_index reserved.new v ≡ slice_index reserved.old v + slice_index needs.now v }
 {
     for v in 0..needs.len() {
@@ -258,7 +275,7 @@ fn reserve(reserved: &mut [u64], needs: &[u64])
     }
 }
 
-fn give_back(reserved: &mut [u64], needs: &[u64])
+fn give_back(reserved: &mut [u32], needs: &[u32])
     requires lengths { length needs.now ≡ length reserved.old }
     requires enough { (v : ℕ) → slice_index needs.now v ≤ slice_index reserved.old v }
     ensures { (v : ℕ) → slice_index reserved.new v + slice_index needs.now v ≡ slice_index reserved.old v }
@@ -269,51 +286,39 @@ fn give_back(reserved: &mut [u64], needs: &[u64])
 }
 
 // How many of the numbers are those of records in slots.
-fn in_slots(inputs: &[u64], handed: u64) -> u64
+fn in_slots(inputs: &[u64], handed: u64) -> usize
     ensures { result ≡ count_by (λ n. nat_le handed n) inputs.now }
 {
-    inputs.iter().filter(|number| handed <= **number).count() as u64
+    inputs.iter().filter(|number| handed <= **number).count()
 }
 
 // The slots in use: one unit gives back some, and the records that arrived have theirs.
-fn change(used: &mut [u64], handed: u64, unit: usize, gone: u64, arrived: &[Live])
+fn change(used: &mut [u32], handed: u64, unit: usize, gone: usize, arrived: &[Live])
     requires unit { unit < length used.old }
     requires gone { gone ≤ slice_index used.old unit }
     requires arrived { Each (ArrivesIn handed (length used.old)) arrived.now }
-    requires small { (v : ℕ) → slice_index used.old v + length arrived.now < 2 ^ 64 }
+    requires small { (v : ℕ) → slice_index used.old v + length arrived.now < 2 ^ 32 }
     ensures { used.new ≡ used_more handed 0 unit gone arrived.now used.old }
 {
-    used[unit] -= gone;
-    for record in arrived {
-        used[record.unit as usize] += 1;
-    }
-}
-
-// Puts records at the end of a list that has places for them.
-fn move_in(waiting: &mut Vec<Live>, arrived: Vec<Live>)
-    requires { vec_len waiting.old + vec_len arrived ≤ vec_capacity waiting.old }
-    ensures { waiting.new.items ≡ waiting.old.items ++ arrived.items }
-{
-    for record in arrived {
-        waiting.push_reserved(record);
+    used[unit] -= gone as u32;
+    for live in arrived {
+        used[live.unit as usize] += 1;
     }
 }
 
 // Records of thread units that come to be, numbered on from a number.
-fn arrivals(alloc: Global, from: u64, sent: SentList) -> Result<Vec<Live>, AllocError>
-    requires { from + length sent < 2 ^ 64 }
-    ensures { IfOk result (λ all. all.items ≡ thread_born from sent) }
+fn arrivals(alloc: Global, from: u64, sent: &[Sent]) -> Result<Vec<Live>, AllocError>
+    requires { from + length sent.now < 2 ^ 64 }
+    ensures { IfOk result (λ all. all.items ≡ thread_born from sent.now) }
 {
     let mut all = Vec::new(alloc);
     let mut number = from;
-    for record in sent.into_vec() {
-        let groups = Groups::from_slice(alloc, &[[0, 0, 0]])?;
-        let Sent { unit, words } = record;
+    for record in sent {
         all.push(Live {
             number,
-            unit,
-            words,
-            groups,
+            unit: record.unit,
+            words: record.words.copy(alloc)?,
+            groups: Groups::from_slice(alloc, &[[0, 0, 0]])?,
         })?;
         number += 1;
     }
@@ -321,18 +326,28 @@ fn arrivals(alloc: Global, from: u64, sent: SentList) -> Result<Vec<Live>, Alloc
 }
 
 // The bytes of so many slots by unit.
-fn bytes_in(shape: &Shape, slots: &[u64]) -> u64
+fn bytes_in(shape: &Shape, counts: &[u32]) -> u64
     requires good { IsGoodShape shape.now }
-    requires lengths { length slots.now ≡ length shape.now.units }
-    requires few { (v : ℕ) → slice_index slots.now v ≤ 1048576 }
-    ensures { result ≡ bytes_of shape.now 0 slots.now }
+    requires lengths { length counts.now ≡ length shape.now.units }
+    ensures value { result ≡ bytes_of shape.now 0 counts.now }
+    ensures bound { result < 2 ^ 58 }
 {
-    let units = shape.units.as_slice();
-    let mut bytes = 0u64;
-    for v in 0..units.len() {
-        bytes += slots[v] * u64::from(units[v].stride);
+    let mut bytes = 0;
+    for (v, count) in counts.iter().enumerate() {
+        bytes += u64::from(*count) * stride_of(shape, v);
     }
     bytes
+}
+
+fn stride_of(shape: &Shape, unit: usize) -> u64
+    requires { IsGoodShape shape.now }
+    ensures value { result ≡ stride_at shape.now unit }
+    ensures bound { result ≤ 8192 }
+{
+    match shape.units.get(unit) {
+        Some(node) => u64::from(node.stride),
+        None => 0,
+    }
 }
 
 /// The launch of a record of a thread unit.

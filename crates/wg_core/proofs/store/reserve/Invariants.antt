@@ -1,0 +1,10 @@
+use Rattle.std.proofs.Common.{◌≡◌, ℕ, ◌≤◌, ◌+◌, ◌<◌, length}
+use Rattle.std.specs.Prelude.{slice_index}
+use Rattle.wg_core.proofs.store.reserve.Given as goal
+
+abbrev pub invariant-loop-v : goal.invariant-loop-v
+invariant-loop-v l =
+    record {
+      changed : (k : ℕ) → k < l.v → slice_index l.reserved k ≡ slice_index l.initial.reserved k + slice_index l.needs k;
+      left : (k : ℕ) → l.v ≤ k → slice_index l.reserved k ≡ slice_index l.initial.reserved k;
+    }

@@ -249,7 +249,7 @@ row_says s rows u row store same within is =
     says_needs s.shape rows u row store.good are (slice_get_read rows (length rows) u row refl (omega (arith, many, within)) is)
 
 pub some_within : (xs : List Live) (i : ℕ) → IsSome (slice_get xs i) → i < length xs
-some_within [] i h = absurd h
+some_within [] i h = absurd (cc)
 some_within (x ∷ xs) zero h = omega arith
 some_within (x ∷ xs) (suc i) h = let k = some_within xs i h in omega arith
 

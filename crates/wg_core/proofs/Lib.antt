@@ -14,6 +14,7 @@ pub mod Keeping
 pub mod Lists
 pub mod OutMore
 pub mod Needing
+pub mod Openings
 pub mod Opening
 pub mod Outs
 pub mod Rising
@@ -22,3 +23,4 @@ pub mod Shapes
 pub mod Slots
 pub mod Slotting
 pub mod Still
+pub mod Threads

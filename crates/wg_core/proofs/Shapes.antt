@@ -77,7 +77,7 @@ deeper_of shape u v good h = go (slice_get shape.units u) refl h
 pub needs_deeper : (shape : Shape) (u v : ℕ) → IsGoodShape shape → 0 < need shape u v → depth_at shape u < depth_at shape v
 needs_deeper shape u v good h = let d = deeper_of shape u v good h in rw (d.node_there, d.target_there) d.deeper
 
-get_below : {X : Type 0} → (xs : List X) (i : ℕ) (x : X) → slice_get xs i ≡ Some x → i < length xs
+pub get_below : {X : Type 0} → (xs : List X) (i : ℕ) (x : X) → slice_get xs i ≡ Some x → i < length xs
 get_below [] i x e = absurd (cc)
 get_below (y ∷ xs) zero x e = omega arith
 get_below (y ∷ xs) (suc i) x e = let h = get_below xs i x e in omega arith

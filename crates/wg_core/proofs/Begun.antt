@@ -27,7 +27,7 @@ and_false true b e = e
 and_false false b e = refl
 
 -- entries are in no slot
-below : (lo end : ℕ) (xs : List Live) → Rises lo xs end → lo ≤ end
+pub below : (lo end : ℕ) (xs : List Live) → Rises lo xs end → lo ≤ end
 below lo end [] r = r
 below lo end (x ∷ xs) r = let a = r.0 in let b = below (x.number + 1) end xs r.1 in omega (arith, a, b)
 
@@ -68,7 +68,7 @@ no_bytes : (shape : Shape) (v n : ℕ) → bytes_of shape v (replicate n 0) ≡ 
 no_bytes shape v zero = refl
 no_bytes shape v (suc n) = let z : 0 * stride_at shape v ≡ 0 = omega arith in let k = no_bytes shape (v + 1) n in omega (arith, z, k)
 
-zero_at : (n v : ℕ) → slice_index (replicate n 0) v ≡ 0
+pub zero_at : (n v : ℕ) → slice_index (replicate n 0) v ≡ 0
 zero_at zero v = refl
 zero_at (suc n) zero = refl
 zero_at (suc n) (suc v) = zero_at n v

@@ -1,4 +1,5 @@
 pub mod Allowed
+pub mod Beginning
 pub mod Begun
 pub mod Blocks
 pub mod Bounds
@@ -19,8 +20,10 @@ pub mod Opening
 pub mod Outs
 pub mod Rising
 pub mod OutLess
+pub mod Settlings
 pub mod Shapes
 pub mod Slots
 pub mod Slotting
+pub mod Stands
 pub mod Still
 pub mod Threads

@@ -1,0 +1,60 @@
+-- A core at the start of a script is sound.
+use Rattle.std.proofs.Common.{◌≡◌, ℕ, zero, suc, ◌+◌, ◌*◌, ◌<◌, ◌≤◌, Bool, true, false, List, [], ◌∷◌, ◌++◌, length, refl, ap, sym, ◌∙◌, subst, arith, None, Option}
+use Rattle.std.specs.Prelude.{if◌then◌else◌, filter, nat_le, replicate, slice_index}
+use Rattle.std.specs.List.{flat_map}
+use Rattle.std.proofs.lemmas.Bool.Decides.{nat_tests}
+use Rattle.wg_words.specs.Each.{Each}
+use Rattle.wg_machine.specs.declared.shape.Shape.{Shape}
+use Rattle.wg_machine.specs.declared.launch.Limits.{Limits}
+use Rattle.wg_machine.specs.declared.launch.Live.{Live}
+use Rattle.wg_machine.specs.declared.launch.Sent.{Sent}
+use Rattle.wg_machine.specs.GoodShape.{IsGoodShape}
+use Rattle.wg_machine.specs.LaunchMeaning.{Arrives, Meaning}
+use Rattle.wg_machine.specs.State.{born, kept}
+use Rattle.wg_core.specs.Core.{CoreView, begun}
+use Rattle.wg_core.specs.Inside.{IsSound, is_in_slot, now_of}
+use Rattle.wg_core.specs.Standing.{Rises, by_unit}
+use Rattle.wg_core.specs.Store.{AllThread, Kept, kept_begun, thread_born}
+use Rattle.wg_core.proofs.Begun.{below, begun_stands, zero_at}
+use Rattle.wg_core.proofs.Rising.{rises_born, rises_kept}
+use Rattle.wg_core.proofs.Threads.{born_is}
+
+none_later : (handed lo : ℕ) (xs : List Live) → Rises lo xs handed → filter (is_in_slot handed) xs ≡ []
+none_later handed lo [] r = refl
+none_later handed lo (x ∷ xs) r =
+    let b = below (x.number + 1) handed xs r.1 in
+    let e : nat_le handed x.number ≡ false = grind (arith, nat_tests) in
+    rw e (none_later handed (x.number + 1) xs r.1)
+
+nothing_waits : (handed v n : ℕ) → by_unit handed v n [] ≡ replicate n []
+nothing_waits handed v zero = refl
+nothing_waits handed v (suc n) = ap (λ (rest : List (List Live)). [] ∷ rest) (nothing_waits handed (v + 1) n)
+
+pub begun_view : (shape : Shape) (width : ℕ) (limits : Limits) (script : List Sent) → AllThread shape → now_of (kept_begun shape width script) limits [] (length script) [] 0 0 0 None ≡ begun shape width limits script []
+begun_view shape width limits script threads =
+    ap (λ (ws : List (List Live)). (let c : CoreView = record (begun shape width limits script []) { waits = ws; entries = thread_born 0 script } in c)) (nothing_waits (length script) 0 (length shape.units))
+    ∙ ap (λ (es : List Live). (let c : CoreView = record (begun shape width limits script []) { entries = es } in c)) (sym (born_is shape threads 0 script))
+
+pub begun_sound : (shape : Shape) (width : ℕ) (limits : Limits) (script : List Sent) (places : ℕ) → IsGoodShape shape → AllThread shape → 1 ≤ width → Each (Arrives shape) script → length script ≤ 1000000 → limits.launches ≤ 10000000 → IsSound (kept_begun shape width script) (now_of (kept_begun shape width script) limits [] (length script) [] 0 0 0 None) places
+begun_sound shape width limits script places good threads wide arrive few launches =
+    let made : Meaning = λ l b t. None in
+    let s = begun_stands made shape width limits script [] arrive in
+    let bag = flat_map kept (born shape 0 script) in
+    let e : 0 + length script ≡ length script = omega arith in
+    let rises : Rises 0 bag (length script) = subst (Rises 0 bag) e (rises_kept 0 (0 + length script) (born shape 0 script) (rises_born shape 0 script)) in
+    let sound : IsSound (kept_begun shape width script) (begun shape width limits script []) places = record {
+      bag = bag;
+      placed = s.placed;
+      waiting = sym (none_later (length script) 0 bag rises);
+      reserves = λ v. zero_at (length shape.units) v;
+      good = good;
+      threads = threads;
+      wide = wide;
+      few = launches;
+      next = omega (arith, few);
+      denied = omega arith;
+      born = tt;
+      spent = tt;
+      spare = omega arith;
+    } in
+    subst (λ (c : CoreView). IsSound (kept_begun shape width script) c places) (sym (begun_view shape width limits script threads)) sound

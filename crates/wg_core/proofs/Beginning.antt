@@ -9,13 +9,13 @@ use Rattle.wg_machine.specs.declared.launch.Limits.{Limits}
 use Rattle.wg_machine.specs.declared.launch.Live.{Live}
 use Rattle.wg_machine.specs.declared.launch.Sent.{Sent}
 use Rattle.wg_machine.specs.GoodShape.{IsGoodShape}
-use Rattle.wg_machine.specs.LaunchMeaning.{Arrives, Meaning}
+use Rattle.wg_machine.specs.LaunchMeaning.{Arrives}
 use Rattle.wg_machine.specs.State.{born, kept}
 use Rattle.wg_core.specs.Core.{CoreView, begun}
 use Rattle.wg_core.specs.Inside.{IsSound, is_in_slot, now_of}
 use Rattle.wg_core.specs.Standing.{Rises, by_unit}
 use Rattle.wg_core.specs.Store.{AllThread, Kept, kept_begun, thread_born}
-use Rattle.wg_core.proofs.Begun.{below, begun_stands, zero_at}
+use Rattle.wg_core.proofs.Begun.{below, begun_placed, zero_at}
 use Rattle.wg_core.proofs.Rising.{rises_born, rises_kept}
 use Rattle.wg_core.proofs.Threads.{born_is}
 
@@ -37,14 +37,12 @@ begun_view shape width limits script threads =
 
 pub begun_sound : (shape : Shape) (width : ℕ) (limits : Limits) (script : List Sent) (places : ℕ) → IsGoodShape shape → AllThread shape → 1 ≤ width → Each (Arrives shape) script → length script ≤ 1000000 → limits.launches ≤ 10000000 → IsSound (kept_begun shape width script) (now_of (kept_begun shape width script) limits [] (length script) [] 0 0 0 None) places
 begun_sound shape width limits script places good threads wide arrive few launches =
-    let made : Meaning = λ l b t. None in
-    let s = begun_stands made shape width limits script [] arrive in
     let bag = flat_map kept (born shape 0 script) in
     let e : 0 + length script ≡ length script = omega arith in
     let rises : Rises 0 bag (length script) = subst (Rises 0 bag) e (rises_kept 0 (0 + length script) (born shape 0 script) (rises_born shape 0 script)) in
     let sound : IsSound (kept_begun shape width script) (begun shape width limits script []) places = record {
       bag = bag;
-      placed = s.placed;
+      placed = begun_placed shape width limits script [] arrive;
       waiting = sym (none_later (length script) 0 bag rises);
       reserves = λ v. zero_at (length shape.units) v;
       good = good;

@@ -73,15 +73,17 @@ zero_at zero v = refl
 zero_at (suc n) zero = refl
 zero_at (suc n) (suc v) = zero_at n v
 
-pub begun_stands : (made : Meaning) (shape : Shape) (width : ℕ) (limits : Limits) (script : List Sent) (start : Buffers) → Each (Arrives shape) script → StandsFor made script start (begun shape width limits script start)
-begun_stands made shape width limits script start arrive =
+begun_rises : (shape : Shape) (script : List Sent) → Rises 0 (flat_map kept (born shape 0 script)) (length script)
+begun_rises shape script =
+    let e : 0 + length script ≡ length script = omega arith in
+    subst (Rises 0 (flat_map kept (born shape 0 script))) e (rises_kept 0 (0 + length script) (born shape 0 script) (rises_born shape 0 script))
+
+pub begun_placed : (shape : Shape) (width : ℕ) (limits : Limits) (script : List Sent) (start : Buffers) → Each (Arrives shape) script → IsPlaced (begun shape width limits script start) (flat_map kept (born shape 0 script))
+begun_placed shape width limits script start arrive =
     let n = length shape.units in
     let bag = flat_map kept (born shape 0 script) in
-    let e : 0 + length script ≡ length script = omega arith in
-    let rises : Rises 0 bag (length script) = subst (Rises 0 bag) e (rises_kept 0 (0 + length script) (born shape 0 script) (rises_born shape 0 script)) in
-    let known = known_born shape 0 script arrive in
-    let bytes : live_bytes shape (length script) (start_of shape script start) ≡ 0 = bytes_are shape (length script) (start_of shape script start) known ∙ ap (bytes_of shape 0) (sym (nothing_used (length script) 0 n bag rises)) ∙ no_bytes shape 0 n in
-    let placed : IsPlaced (begun shape width limits script start) bag = record {
+    let rises = begun_rises shape script in
+    record {
       waits = nothing_waits (length script) 0 n bag rises;
       entries = sym (all_entries (length script) 0 bag rises);
       allowed = tt;
@@ -95,11 +97,18 @@ begun_stands made shape width limits script start arrive =
       handed = omega arith;
       distinct = distinct_born shape 0 script;
       full = full_born shape 0 script;
-      known = known;
+      known = known_born shape 0 script arrive;
       words = words_born shape 0 script arrive;
       used = nothing_used (length script) 0 n bag rises;
       room = λ v. let z = zero_at n v in omega (arith, z);
-    } in
+    }
+
+pub begun_stands : (made : Meaning) (shape : Shape) (width : ℕ) (limits : Limits) (script : List Sent) (start : Buffers) → Each (Arrives shape) script → StandsFor made script start (begun shape width limits script start)
+begun_stands made shape width limits script start arrive =
+    let n = length shape.units in
+    let bag = flat_map kept (born shape 0 script) in
+    let placed = begun_placed shape width limits script start arrive in
+    let bytes : live_bytes shape (length script) (start_of shape script start) ≡ 0 = bytes_are shape (length script) (start_of shape script start) (known_born shape 0 script arrive) ∙ ap (bytes_of shape 0) (sym (nothing_used (length script) 0 n bag (begun_rises shape script))) ∙ no_bytes shape 0 n in
     record {
       state = start_of shape script start;
       trail = [];

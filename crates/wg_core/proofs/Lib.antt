@@ -8,6 +8,7 @@ pub mod Choice
 pub mod Chosen
 pub mod Commute
 pub mod Counting
+pub mod Endings
 pub mod Fitting
 pub mod Fronts
 pub mod Grids

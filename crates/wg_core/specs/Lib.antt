@@ -1,5 +1,6 @@
 pub mod Choice
 pub mod Core
+pub mod Ending
 pub mod Inside
 pub mod Moves
 pub mod Outs

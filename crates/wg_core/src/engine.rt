@@ -1,4 +1,4 @@
-ghost use Rattle.std.specs.Prelude.{◌≡◌, ◌≤◌, ◌<◌, ◌+◌, ◌^◌, ◌==◌, [], ◌∷◌, ◌++◌, length, remove, slice_get, List, None, Some, IfOk, IfSome, IfNone, if◌then◌else◌};
+ghost use Rattle.std.specs.Prelude.{◌≡◌, ◌≤◌, ◌<◌, ◌+◌, ◌^◌, ◌==◌, [], ◌∷◌, ◌++◌, length, remove, slice_get, List, None, Some, IfOk, IfSome, IfNone, IsTrue, ◌↔◌, if◌then◌else◌};
 ghost use Rattle.wg_words.specs.Each.{Each};
 ghost use Rattle.wg_machine.specs.declared.shape.Unit.{Unit as Node};
 ghost use Rattle.wg_machine.specs.declared.shape.Kind.TheVariants.{Thread};
@@ -9,7 +9,9 @@ ghost use Rattle.wg_machine.specs.Bytes.{plan_bytes};
 ghost use Rattle.wg_machine.specs.GoodShape.{IsGoodShape};
 ghost use Rattle.wg_machine.specs.LaunchMeaning.{Arrives, Meaning};
 ghost use Rattle.wg_core.specs.Standing.{IsNotOut};
+ghost use Rattle.wg_core.specs.Ending.{EndIs, IsLaunchOut};
 ghost use Rattle.wg_core.specs.Inside.{IsAt};
+ghost use Rattle.wg_core.specs.Store.{IsBare};
 
 use crate::pending::Pending;
 use crate::report::{End, Report};
@@ -157,7 +159,7 @@ impl Core {
         if self.stopped.is_some() {
             return Opened::Stopped;
         }
-        if self.outs.is_empty() && self.store.is_bare() {
+        if is_idle(&self.store, self.outs.as_slice()) {
             return Opened::Idle;
         }
         let count = self.journal.len() + self.outs.len();
@@ -282,31 +284,57 @@ impl Core {
     }
 }
 
+// Whether nothing waits and nothing is out.
+fn is_idle(store: &Store, outs: &[Pending]) -> bool
+    ensures { IsTrue result ↔ ((outs.now ≡ []) × IsBare store.now) }
+{
+    outs.is_empty() && store.is_bare()
+}
+
 // How a run ended.
 fn end_of(
     store: &Store,
-    mut outs: Vec<Pending>,
+    outs: Vec<Pending>,
     stopped: Option<u64>,
     journal: u64,
     limits: &Limits,
-) -> End {
+) -> End
+    requires { IfSome stopped (λ ticket. IsNotOut ticket outs.items → ⊥) }
+    ensures { EndIs store.now outs.items stopped journal limits.now result }
+{
     if let Some(ticket) = stopped {
-        let Some(place) = place_of(outs.as_slice(), ticket) else {
-            unreachable!();
-        };
-        let pending = outs.remove(place);
-        return End::Turns(pending.launch);
+        return End::Turns(launch_out(outs, ticket));
     }
-    if !outs.is_empty() {
-        return End::Open;
-    }
-    if store.is_bare() {
+    if is_idle(store, outs.as_slice()) {
         return End::Complete;
     }
-    if journal == limits.launches {
+    if outs.is_empty() && journal == limits.launches {
         return End::Launches;
     }
     End::Open
+}
+
+// The launch with a ticket.
+fn launch_out(mut outs: Vec<Pending>, ticket: u64) -> Launch
+    requires { IsNotOut ticket outs.items → ⊥ }
+    ensures { IsLaunchOut outs.items ticket result }
+{
+    let Some(place) = place_of(outs.as_slice(), ticket) else {
+        unreachable!();
+    };
+    launch_in(outs.remove(place))
+}
+
+fn launch_in(pending: Pending) -> Launch
+    ensures { result ≡ pending.launch }
+{
+    let Pending {
+        ticket: _,
+        at: _,
+        launch,
+        inputs: _,
+    } = pending;
+    launch
 }
 
 // The place of the launch with a ticket.

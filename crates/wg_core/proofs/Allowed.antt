@@ -1,18 +1,17 @@
 -- Launches that stay allowed.
-use Rattle.std.proofs.Common.{◌≡◌, ℕ, zero, suc, ◌+◌, ◌<◌, ◌≤◌, Bool, true, false, ◌||◌, List, [], ◌∷◌, ◌++◌, length, map, refl, ap, sym, ◌∙◌, subst, arith, inl, inr, ◌⊎◌}
-use Rattle.std.specs.Prelude.{if◌then◌else◌, ◌==◌, ◌&&◌, filter}
-use Rattle.std.proofs.lemmas.Bool.Decides.{nat_tests, Decides-eqb}
+use Rattle.std.proofs.Common.{◌≡◌, ℕ, Bool, true, false, ◌||◌, List, [], ◌∷◌, ◌++◌, map, refl, ap, sym, ◌∙◌, subst, arith, inl, inr, ◌⊎◌}
+use Rattle.std.specs.Prelude.{if◌then◌else◌}
+use Rattle.std.proofs.lemmas.Bool.Decides.{nat_tests}
 use Rattle.wg_core.specs.declared.pending.Pending.{Pending}
 use Rattle.wg_machine.specs.declared.launch.Live.{Live}
 use Rattle.wg_machine.specs.declared.launch.Record.{Record}
 use Rattle.wg_machine.specs.declared.shape.Shape.{Shape}
 use Rattle.wg_machine.specs.State.{kept}
-use Rattle.wg_machine.specs.Step.{left_after, is_among, taken, record_of, numbers_of, IsReady, Allows}
+use Rattle.wg_machine.specs.Step.{left_after, is_among, taken, record_of, IsReady, Allows}
 use Rattle.wg_machine.specs.Grids.{without_group, same_group, has_group}
-use Rattle.wg_core.specs.Outs.{numbers_out, after_one, unopened, IsApart, ApartFromAll, AllApart, AllAllowed}
-use Rattle.wg_core.specs.Standing.{Rises}
+use Rattle.wg_core.specs.Outs.{numbers_out, after_one, IsApart}
 use Rattle.wg_words.specs.Each.{Each}
-use Rattle.wg_core.proofs.Commute.{append_nil, live_with, ran, left_append, same_both}
+use Rattle.wg_core.proofs.Commute.{live_with, ran, same_both}
 
 pub same_self : (g : List ℕ) → same_group g g ≡ true
 same_self g = grind (arith, nat_tests)

@@ -1,6 +1,6 @@
 -- A core at the start of a script is sound.
-use Rattle.std.proofs.Common.{◌≡◌, ℕ, zero, suc, ◌+◌, ◌*◌, ◌<◌, ◌≤◌, Bool, true, false, List, [], ◌∷◌, ◌++◌, length, refl, ap, sym, ◌∙◌, subst, arith, None, Option}
-use Rattle.std.specs.Prelude.{if◌then◌else◌, filter, nat_le, replicate, slice_index}
+use Rattle.std.proofs.Common.{◌≡◌, ℕ, zero, suc, ◌+◌, ◌≤◌, false, List, [], ◌∷◌, length, refl, ap, sym, ◌∙◌, subst, arith, None}
+use Rattle.std.specs.Prelude.{filter, nat_le, replicate}
 use Rattle.std.specs.List.{flat_map}
 use Rattle.std.proofs.lemmas.Bool.Decides.{nat_tests}
 use Rattle.wg_words.specs.Each.{Each}
@@ -14,7 +14,7 @@ use Rattle.wg_machine.specs.State.{born, kept}
 use Rattle.wg_core.specs.Core.{CoreView, begun}
 use Rattle.wg_core.specs.Inside.{IsSound, is_in_slot, now_of}
 use Rattle.wg_core.specs.Standing.{Rises, by_unit}
-use Rattle.wg_core.specs.Store.{AllThread, Kept, kept_begun, thread_born}
+use Rattle.wg_core.specs.Store.{AllThread, kept_begun, thread_born}
 use Rattle.wg_core.proofs.Begun.{below, begun_placed, zero_at}
 use Rattle.wg_core.proofs.Rising.{rises_born, rises_kept}
 use Rattle.wg_core.proofs.Threads.{born_is}

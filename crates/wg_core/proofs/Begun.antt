@@ -1,5 +1,5 @@
 -- A core that begins stands for its script.
-use Rattle.std.proofs.Common.{◌≡◌, ℕ, zero, suc, ◌+◌, ◌*◌, ◌<◌, ◌≤◌, Bool, true, false, List, [], ◌∷◌, ◌++◌, length, map, refl, ap, sym, ◌∙◌, subst, arith, None}
+use Rattle.std.proofs.Common.{◌≡◌, ℕ, zero, suc, ◌+◌, ◌*◌, ◌≤◌, Bool, true, false, List, [], ◌∷◌, length, refl, ap, sym, ◌∙◌, subst, arith}
 use Rattle.std.specs.Prelude.{if◌then◌else◌, ◌==◌, ◌&&◌, filter, count_by, nat_le, replicate, slice_index}
 use Rattle.std.specs.List.{flat_map}
 use Rattle.std.proofs.lemmas.Bool.Decides.{nat_tests}
@@ -13,7 +13,7 @@ use Rattle.wg_machine.specs.State.{kept, born, start as start_of}
 use Rattle.wg_machine.specs.Bytes.{live_bytes}
 use Rattle.wg_machine.specs.Units.{stride_at}
 use Rattle.wg_core.specs.Standing.{Rises, IsPlaced, StandsFor, by_unit, counts, in_slot, is_entry}
-use Rattle.wg_core.specs.Core.{CoreView, begun}
+use Rattle.wg_core.specs.Core.{begun}
 use Rattle.wg_core.specs.Moves.{bytes_of}
 use Rattle.wg_words.specs.Each.{Each}
 use Rattle.wg_core.proofs.Rising.{rises_kept, rises_born}

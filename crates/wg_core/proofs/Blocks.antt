@@ -1,10 +1,9 @@
 -- With no launch out, something can be opened.
-use Rattle.std.proofs.Common.{◌≡◌, ◌≢◌, ℕ, zero, suc, ◌+◌, ◌*◌, ◌<◌, ◌≤◌, Bool, true, false, List, [], ◌∷◌, ◌++◌, length, map, refl, ap, sym, ◌∙◌, subst, arith, inl, inr, ◌⊎◌, unwrap_or}
-use Rattle.std.specs.Prelude.{if◌then◌else◌, ◌==◌, ◌&&◌, filter, slice_get, slice_index, nat_le, count_by}
-use Rattle.std.proofs.lemmas.Bool.Decides.{nat_tests, Decides-eqb}
+use Rattle.std.proofs.Common.{◌≡◌, ◌≢◌, ℕ, zero, suc, ◌+◌, ◌*◌, ◌<◌, ◌≤◌, Bool, true, false, List, [], ◌∷◌, length, refl, ap, sym, ◌∙◌, arith, inl, inr, ◌⊎◌, unwrap_or}
+use Rattle.std.specs.Prelude.{if◌then◌else◌, ◌==◌, filter, slice_get, slice_index, nat_le, count_by}
+use Rattle.std.proofs.lemmas.Bool.Decides.{nat_tests}
 use Rattle.wg_core.specs.declared.pending.Pending.{Pending}
 use Rattle.wg_machine.specs.declared.launch.Live.{Live}
-use Rattle.wg_machine.specs.declared.shape.Shape.{Shape}
 use Rattle.wg_machine.specs.Need.{need, most}
 use Rattle.wg_core.specs.Outs.{unopened}
 use Rattle.wg_core.specs.Core.{CoreView}
@@ -59,15 +58,15 @@ deepest_has_room core bag u good wide p none most_deep v =
     elim (zero_or (need core.shape u v)) [
       | inl z ↦ omega (arith, r, z)
       | inr some ↦ (
-        let below = needs_deeper core.shape u v good some in
-        let used = used_at core bag p none v in
-        let least = needs_no_more core.shape u v in
-        let wider = times_one core.width (most core.shape v) wide in
-        elim (zero_or (length (waiting_at core v))) [
-          | inl e ↦ omega (arith, used, e, least, wider, reserves)
-          | inr w ↦ (let d = most_deep v (needed_within core.shape u v good some) w in absurd (omega (arith, d, below)))
-        ]
-      )
+          let below = needs_deeper core.shape u v good some in
+          let used = used_at core bag p none v in
+          let least = needs_no_more core.shape u v in
+          let wider = times_one core.width (most core.shape v) wide in
+          elim (zero_or (length (waiting_at core v))) [
+            | inl e ↦ omega (arith, used, e, least, wider, reserves)
+            | inr w ↦ (let d = most_deep v (needed_within core.shape u v good some) w in absurd (omega (arith, d, below)))
+          ]
+          )
     ]
 
 -- of the units below n, one that waits and is deepest, or none waits

@@ -1,19 +1,19 @@
 -- Bounds of needs, of what a launch sends, and of bytes, in a good shape.
-use Rattle.std.proofs.Common.{◌≡◌, ℕ, zero, suc, ◌+◌, ◌*◌, ◌^◌, ◌<◌, ◌≤◌, Bool, true, false, ◌||◌, cond, List, [], ◌∷◌, ◌++◌, length, map, refl, ap, sym, ◌∙◌, subst, arith, max, Option, None, Some, unwrap_or, length-append}
-use Rattle.std.specs.Prelude.{if◌then◌else◌, ◌==◌, ◌&&◌, nat_le, slice_get, slice_index, slice_index_or, sum_by, count_by, Contains}
+use Rattle.std.proofs.Common.{◌≡◌, ℕ, zero, suc, ◌+◌, ◌*◌, ◌<◌, ◌≤◌, Bool, true, false, ◌||◌, List, [], ◌∷◌, length, map, refl, ap, ◌∙◌, subst, arith, Option, None, Some, unwrap_or, length-append}
+use Rattle.std.specs.Prelude.{◌==◌, ◌&&◌, nat_le, slice_get, slice_index, slice_index_or, sum_by, count_by, Contains}
 use Rattle.std.specs.Option.{option_map}
 use Rattle.std.specs.List.{list_any}
-use Rattle.std.proofs.lemmas.Bool.Decides.{nat_tests, Decides-eqb}
+use Rattle.std.proofs.lemmas.Bool.Decides.{nat_tests}
 use Rattle.std.proofs.lemmas.List.Sums.{sum_by-cons}
 use Rattle.wg_words.specs.Each.{Each}
 use Rattle.wg_machine.specs.declared.shape.Output.{Output}
 use Rattle.wg_machine.specs.declared.shape.Shape.{Shape}
 use Rattle.wg_machine.specs.declared.shape.Unit.{Unit as Node}
 use Rattle.wg_machine.specs.declared.launch.Sent.{Sent}
-use Rattle.wg_machine.specs.GoodShape.{IsGoodShape, IsGoodUnit, IsBetween, IsUnrolled}
-use Rattle.wg_machine.specs.LaunchMeaning.{GoesThrough, AllGoThrough, KeepsBudgets}
-use Rattle.wg_machine.specs.Need.{is_target, reaches, need_from, need_of, need, greatest, most}
-use Rattle.wg_machine.specs.Units.{stride_at, stride_of}
+use Rattle.wg_machine.specs.GoodShape.{IsGoodShape, IsBetween}
+use Rattle.wg_machine.specs.LaunchMeaning.{AllGoThrough, KeepsBudgets}
+use Rattle.wg_machine.specs.Need.{is_target, reaches, need_from, need_of, greatest, most}
+use Rattle.wg_machine.specs.Units.{stride_at}
 use Rattle.wg_machine.specs.Unrolling.{levels, unrolled, node_and_level}
 use Rattle.wg_core.proofs.Counting.{count_cons, pay}
 

@@ -1,8 +1,8 @@
 -- Bytes in slots, and room.
-use Rattle.std.proofs.Common.{◌≡◌, ℕ, zero, suc, ◌+◌, ◌-◌, ◌*◌, ◌<◌, ◌≤◌, Bool, true, false, ◌||◌, cond, List, [], ◌∷◌, ◌++◌, length, map, refl, ap, sym, ◌∙◌, subst, arith, inl, inr, ◌⊎◌}
-use Rattle.std.specs.Prelude.{if◌then◌else◌, ◌==◌, ◌&&◌, filter, nat_le, nat_lt, count_by, sum_by, slice_index, max}
-use Rattle.std.specs.List.{list_any, flat_map, range_with_len}
-use Rattle.std.proofs.Math.Nat.{mul-le-mul_right, mul-add, add-mul}
+use Rattle.std.proofs.Common.{◌≡◌, ℕ, zero, suc, ◌+◌, ◌-◌, ◌*◌, ◌<◌, ◌≤◌, Bool, true, false, ◌||◌, List, [], ◌∷◌, ◌++◌, length, refl, ap, sym, ◌∙◌, subst, arith}
+use Rattle.std.specs.Prelude.{if◌then◌else◌, ◌==◌, ◌&&◌, nat_le, nat_lt, count_by, sum_by, slice_index, max}
+use Rattle.std.specs.List.{flat_map}
+use Rattle.std.proofs.Math.Nat.{add-mul}
 use Rattle.std.proofs.lemmas.Bool.Decides.{nat_tests, Decides-eqb}
 use Rattle.std.proofs.lemmas.List.Sums.{sum_by-cons}
 use Rattle.wg_machine.specs.declared.launch.Live.{Live}
@@ -10,13 +10,12 @@ use Rattle.wg_machine.specs.declared.launch.Sent.{Sent}
 use Rattle.wg_machine.specs.declared.shape.Kind.TheVariants.{Thread, Coalescing, Grid, GridField}
 use Rattle.wg_machine.specs.declared.shape.Kind.{Kind}
 use Rattle.wg_machine.specs.declared.shape.Shape.{Shape}
-use Rattle.wg_machine.specs.State.{State, kept, born, live_of}
+use Rattle.wg_machine.specs.State.{State, kept, born}
 use Rattle.wg_machine.specs.Step.{Passed, left_after, is_among}
 use Rattle.wg_machine.specs.Units.{stride_at, kind_at, words_at}
-use Rattle.wg_machine.specs.Bytes.{live_bytes, peak as peak_of, least}
+use Rattle.wg_machine.specs.Bytes.{live_bytes, peak as peak_of}
 use Rattle.wg_machine.specs.Grids.{grid_of, groups_of, without_group, same_group}
-use Rattle.wg_core.specs.Standing.{EachFull, IsFull, IsWithin, has_one_group, origin, by_unit, counts, in_slot, EachKnown, EachHasWords}
-use Rattle.wg_machine.specs.Need.{need, most}
+use Rattle.wg_core.specs.Standing.{EachFull, IsWithin, has_one_group, origin, counts, in_slot, EachKnown, EachHasWords}
 use Rattle.wg_machine.specs.LaunchMeaning.{Arrives}
 use Rattle.wg_core.specs.Moves.{bytes_of, used_more}
 use Rattle.wg_words.specs.Each.{Each}

@@ -1,8 +1,8 @@
 -- The launch that is chosen is one that what is unopened allows.
-use Rattle.std.proofs.Common.{◌≡◌, ℕ, zero, suc, ◌+◌, ◌<◌, ◌≤◌, Bool, true, false, ◌||◌, List, [], ◌∷◌, ◌++◌, length, map, refl, ap, sym, ◌∙◌, subst, arith, inl, inr, ◌⊎◌, Some, unwrap_or}
-use Rattle.std.specs.Prelude.{if◌then◌else◌, ◌==◌, ◌&&◌, filter, take, take_while, slice_get, ⊤}
+use Rattle.std.proofs.Common.{◌≡◌, ℕ, zero, suc, ◌+◌, ◌<◌, ◌≤◌, Bool, true, false, List, [], ◌∷◌, length, map, refl, ap, sym, ◌∙◌, subst, arith, inl, inr, ◌⊎◌, unwrap_or}
+use Rattle.std.specs.Prelude.{if◌then◌else◌, ◌==◌, filter, take, take_while, slice_get, ⊤}
 use Rattle.std.specs.List.{prefix_len}
-use Rattle.std.proofs.lemmas.Bool.Decides.{nat_tests, Decides-eqb}
+use Rattle.std.proofs.lemmas.Bool.Decides.{nat_tests}
 use Rattle.wg_machine.specs.declared.launch.Live.{Live}
 use Rattle.wg_machine.specs.declared.launch.Record.{Record}
 use Rattle.wg_machine.specs.declared.shape.Kind.TheVariants.{Thread, Coalescing, Grid, GridField}
@@ -12,7 +12,7 @@ use Rattle.wg_machine.specs.Step.{is_among, taken, record_of, numbers_of, IsRead
 use Rattle.wg_machine.specs.Units.{kind_at, most_inputs}
 use Rattle.wg_machine.specs.Grids.{grid_of, has_group}
 use Rattle.wg_core.specs.Standing.{Rises, IsFull, EachFull, origin, has_one_group}
-use Rattle.wg_core.specs.Choice.{chosen, first_group, first_words, launch_from}
+use Rattle.wg_core.specs.Choice.{chosen, first_group, launch_from}
 use Rattle.wg_words.specs.Each.{Each}
 use Rattle.wg_core.proofs.Allowed.{has_here, same_self}
 use Rattle.wg_core.proofs.Rising.{numbers}

@@ -1,5 +1,5 @@
 -- The choice of a core is allowed.
-use Rattle.std.proofs.Common.{◌≡◌, ℕ, zero, suc, ◌+◌, ◌<◌, ◌≤◌, Bool, true, false, List, [], ◌∷◌, ◌++◌, length, map, refl, ap, sym, ◌∙◌, subst, arith, unwrap_or}
+use Rattle.std.proofs.Common.{◌≡◌, ℕ, zero, suc, ◌+◌, ◌<◌, Bool, true, false, List, [], ◌∷◌, length, refl, ap, sym, ◌∙◌, subst, arith, unwrap_or}
 use Rattle.std.specs.Prelude.{if◌then◌else◌, ◌==◌, ◌&&◌, filter, slice_get, take, take_while, nat_le}
 use Rattle.std.specs.List.{prefix_len}
 use Rattle.std.proofs.lemmas.Bool.Decides.{nat_tests, Decides-eqb}
@@ -7,7 +7,6 @@ use Rattle.wg_core.specs.declared.pending.Pending.{Pending}
 use Rattle.wg_machine.specs.declared.launch.Live.{Live}
 use Rattle.wg_machine.specs.declared.shape.Shape.{Shape}
 use Rattle.wg_machine.specs.Step.{Allows}
-use Rattle.wg_machine.specs.Units.{kind_at, most_inputs}
 use Rattle.wg_core.specs.Outs.{unopened, after_one, numbers_out}
 use Rattle.wg_core.specs.Standing.{EachFull, IsPlaced, by_unit, in_slot, is_entry}
 use Rattle.wg_core.specs.Core.{CoreView}

@@ -1,6 +1,6 @@
 -- Launches take their groups in any order.
-use Rattle.std.proofs.Common.{◌≡◌, ℕ, ◌+◌, ◌<◌, ◌≤◌, Bool, true, false, List, [], ◌∷◌, ◌++◌, refl, ap, sym, ◌∙◌, subst, arith, append_assoc}
-use Rattle.std.specs.Prelude.{if◌then◌else◌, ◌==◌, ◌&&◌}
+use Rattle.std.proofs.Common.{◌≡◌, ℕ, Bool, true, false, List, [], ◌∷◌, ◌++◌, refl, ap, sym, ◌∙◌, arith, append_assoc}
+use Rattle.std.specs.Prelude.{if◌then◌else◌}
 use Rattle.std.proofs.lemmas.Bool.Decides.{nat_tests}
 use Rattle.wg_core.specs.declared.pending.Pending.{Pending}
 use Rattle.wg_machine.specs.declared.launch.Live.{Live}
@@ -8,7 +8,6 @@ use Rattle.wg_machine.specs.State.{kept}
 use Rattle.wg_machine.specs.Step.{left_after, is_among}
 use Rattle.wg_machine.specs.Grids.{without_group, same_group}
 use Rattle.wg_core.specs.Outs.{numbers_out, after_one, unopened}
-use Rattle.wg_core.specs.Standing.{Rises}
 
 pub append_nil : {X : Type 0} → (xs : List X) → xs ++ [] ≡ xs
 append_nil [] = refl

@@ -1,24 +1,16 @@
 -- How many slots a settling frees.
-use Rattle.std.proofs.Common.{◌≡◌, ℕ, zero, suc, ◌+◌, ◌-◌, ◌<◌, ◌≤◌, Bool, true, false, ◌||◌, cond, List, [], ◌∷◌, ◌++◌, length, map, refl, ap, sym, ◌∙◌, subst, arith, inl, inr, ◌⊎◌}
-use Rattle.std.specs.Prelude.{if◌then◌else◌, ◌==◌, ◌&&◌, filter, count_by, nat_le, Contains, slice_index}
-use Rattle.std.specs.List.{list_any, flat_map}
-use Rattle.std.proofs.lemmas.Bool.Decides.{nat_tests, Decides-eqb}
+use Rattle.std.proofs.Common.{◌≡◌, ℕ, ◌+◌, ◌<◌, ◌≤◌, Bool, true, false, cond, List, [], ◌∷◌, ◌++◌, refl, ap, sym, ◌∙◌, subst, arith}
+use Rattle.std.specs.Prelude.{if◌then◌else◌, ◌==◌, ◌&&◌, count_by, nat_le}
+use Rattle.std.proofs.lemmas.Bool.Decides.{nat_tests}
 use Rattle.std.proofs.lemmas.List.Sums.{sum_by-cons}
-use Rattle.wg_core.specs.declared.pending.Pending.{Pending}
 use Rattle.wg_machine.specs.declared.launch.Live.{Live}
-use Rattle.wg_machine.specs.declared.launch.Sent.{Sent}
-use Rattle.wg_machine.specs.declared.shape.Shape.{Shape}
-use Rattle.wg_machine.specs.State.{kept, born, live_of}
-use Rattle.wg_machine.specs.Step.{left_after, is_among, taken, numbers_of, IsReady, Allows}
-use Rattle.wg_machine.specs.Grids.{without_group, grid_of, groups_of}
-use Rattle.wg_machine.specs.Units.{kind_at}
-use Rattle.wg_core.specs.Outs.{numbers_out, after_one, unopened, AllAllowed}
-use Rattle.wg_core.specs.Standing.{Rises, by_unit, counts, in_slot, EachKnown}
-use Rattle.wg_core.specs.Moves.{is_still, used_more}
+use Rattle.wg_machine.specs.State.{kept}
+use Rattle.wg_machine.specs.Step.{left_after, is_among, taken, IsReady}
+use Rattle.wg_machine.specs.Grids.{without_group}
+use Rattle.wg_core.specs.Standing.{Rises, in_slot}
 use Rattle.wg_words.specs.Each.{Each}
-use Rattle.wg_core.proofs.Commute.{append_nil, live_with, ran, left_append}
-use Rattle.wg_core.proofs.Rising.{numbers, among_none, among_first, among_kept, among_ran, rises_left}
-use Rattle.wg_core.proofs.Outs.{allowed_among}
+use Rattle.wg_core.proofs.Commute.{live_with, ran}
+use Rattle.wg_core.proofs.Rising.{numbers, among_none, rises_left}
 
 pub count_cons : {X : Type 0} → (p : X → Bool) (x : X) (xs : List X) → count_by p (x ∷ xs) ≡ (if p x then 1 else 0) + count_by p xs
 count_cons p x xs = sum_by-cons (λ y. cond (p y) 1 0) x xs
@@ -106,11 +98,10 @@ among_skip at x rest false n h = rw (not_eq x.number n h) refl
 
 pub agrees : (nums at : List ℕ) (f : ℕ → Bool) (lo end : ℕ) (bag : List Live) → Rises lo bag end → ((n : ℕ) → lo ≤ n → f n ≡ opposite (is_among (numbers (left_after nums at bag)) n)) → EachAgrees (λ (x : Live). is_nil (without_group at x.groups)) f nums bag
 agrees nums at f lo end [] r h = tt
-agrees nums at f lo end (x ∷ bag) r h =
-    (
-      λ e. go (without_group at x.groups) (subst (λ (b : Bool). f x.number ≡ opposite (is_among (numbers (ran b at x ++ left_after nums at bag)) x.number)) e (h x.number r.0)),
-      agrees nums at f (x.number + 1) end bag r.1 (λ n low. let a = r.0 in h n (omega arith) ∙ ap opposite (among_skip at x (left_after nums at bag) (is_among nums x.number) n (omega arith))),
-    )
+agrees nums at f lo end (x ∷ bag) r h = (
+  λ e. go (without_group at x.groups) (subst (λ (b : Bool). f x.number ≡ opposite (is_among (numbers (ran b at x ++ left_after nums at bag)) x.number)) e (h x.number r.0)),
+  agrees nums at f (x.number + 1) end bag r.1 (λ n low. let a = r.0 in h n (omega arith) ∙ ap opposite (among_skip at x (left_after nums at bag) (is_among nums x.number) n (omega arith))),
+)
   where
     go : (gs : List (List ℕ)) → f x.number ≡ opposite (is_among (numbers (kept (live_with x.number x.unit x.words gs) ++ left_after nums at bag)) x.number) → is_nil gs ≡ f x.number
     go [] e =

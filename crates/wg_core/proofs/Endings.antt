@@ -1,7 +1,7 @@
 -- A core that is idle, or that ends.
-use Rattle.std.proofs.Common.{◌≡◌, ◌≢◌, ℕ, zero, suc, ◌+◌, ◌<◌, ◌≤◌, Bool, true, false, List, [], ◌∷◌, ◌++◌, length, refl, ap, sym, ◌∙◌, subst, arith, None, Some, Option, inl, inr, ◌⊎◌, take, drop, unwrap_or}
+use Rattle.std.proofs.Common.{◌≡◌, ℕ, zero, suc, ◌+◌, ◌<◌, Bool, true, List, [], ◌∷◌, ◌++◌, length, refl, ap, sym, ◌∙◌, subst, arith, None, Some, Option, take, drop, unwrap_or}
 use Rattle.std.specs.Prelude.{◌==◌, ◌&&◌, filter, slice_get, nat_le, IfSome}
-use Rattle.std.proofs.lemmas.Bool.Decides.{nat_tests, Decides-eqb}
+use Rattle.std.proofs.lemmas.Bool.Decides.{nat_tests}
 use Rattle.wg_words.specs.Each.{Each}
 use Rattle.wg_machine.specs.declared.launch.Live.{Live}
 use Rattle.wg_core.specs.declared.pending.Pending.{Pending}
@@ -10,11 +10,11 @@ use Rattle.wg_core.specs.declared.report.End.TheVariants as ended
 use Rattle.wg_core.specs.declared.store.Place.{Place}
 use Rattle.wg_core.specs.declared.store.Place.TheVariants.{Waiting, Entry}
 use Rattle.wg_core.specs.Core.{CoreView}
-use Rattle.wg_core.specs.Ending.{EndIs, IsLaunchOut}
+use Rattle.wg_core.specs.Ending.{EndIs}
 use Rattle.wg_core.specs.Inside.{IsSound}
 use Rattle.wg_core.specs.Standing.{IsNotOut, by_unit, in_slot}
 use Rattle.wg_core.specs.Store.{Chooses, IsBare, Kept, KeptHasRoom, record_at}
-use Rattle.wg_core.specs.Choice.{first_unit, waiting_at}
+use Rattle.wg_core.specs.Choice.{first_unit}
 use Rattle.wg_core.specs.Tables.{Ends, IsIdle, SomeIsOut}
 use Rattle.wg_core.proofs.Blocks.{by_unit_at}
 use Rattle.wg_core.proofs.Bounds.{at_each}

@@ -1,6 +1,6 @@
 -- Launches out fit the shape.
-use Rattle.std.proofs.Common.{◌≡◌, ℕ, zero, suc, ◌+◌, ◌*◌, ◌^◌, ◌<◌, ◌≤◌, Bool, true, false, List, [], ◌∷◌, ◌++◌, length, map, refl, ap, sym, ◌∙◌, subst, arith, inl, inr, ◌⊎◌, min}
-use Rattle.std.specs.Prelude.{if◌then◌else◌, slice_index, ◌==◌, nat_lt}
+use Rattle.std.proofs.Common.{◌≡◌, ℕ, ◌+◌, ◌*◌, ◌^◌, ◌<◌, ◌≤◌, Bool, true, false, List, [], ◌∷◌, ◌++◌, length, map, ap, sym, ◌∙◌, subst, arith, inl, inr, min}
+use Rattle.std.specs.Prelude.{if◌then◌else◌, slice_index, nat_lt}
 use Rattle.std.proofs.lemmas.Bool.Decides.{nat_tests}
 use Rattle.wg_words.specs.Each.{Each}
 use Rattle.wg_machine.specs.declared.shape.Kind.{Kind}
@@ -9,10 +9,10 @@ use Rattle.wg_machine.specs.declared.shape.Shape.{Shape}
 use Rattle.wg_machine.specs.declared.launch.Launch.{Launch}
 use Rattle.wg_machine.specs.declared.launch.Live.{Live}
 use Rattle.wg_machine.specs.declared.launch.Record.{Record}
-use Rattle.wg_machine.specs.GoodShape.{IsGoodShape, IsGoodKind, IsGoodGrid}
+use Rattle.wg_machine.specs.GoodShape.{IsGoodShape, IsGoodKind}
 use Rattle.wg_machine.specs.Grids.{clipped, grid_of, groups_in, place_of, same_group, has_group}
 use Rattle.wg_machine.specs.LaunchMeaning.{FitsShape, HasGridOf}
-use Rattle.wg_machine.specs.Step.{Allows, IsReady, is_among, numbers_of, record_of, taken}
+use Rattle.wg_machine.specs.Step.{Allows, IsReady, is_among, record_of, taken}
 use Rattle.wg_machine.specs.Units.{kind_at, words_at}
 use Rattle.wg_core.specs.declared.pending.Pending.{Pending}
 use Rattle.wg_core.specs.Core.{CoreView}

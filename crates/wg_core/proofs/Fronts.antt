@@ -1,14 +1,13 @@
 -- What a launch takes from the front of a unit's list.
-use Rattle.std.proofs.Common.{◌≡◌, ℕ, zero, suc, ◌+◌, ◌<◌, ◌≤◌, Bool, true, false, ◌||◌, List, [], ◌∷◌, ◌++◌, length, map, refl, ap, sym, ◌∙◌, subst, arith, unwrap_or}
-use Rattle.std.specs.Prelude.{if◌then◌else◌, ◌==◌, take, drop, slice_get}
+use Rattle.std.proofs.Common.{◌≡◌, ℕ, zero, suc, ◌+◌, ◌<◌, Bool, true, false, ◌||◌, List, [], ◌∷◌, ◌++◌, refl, ap, sym, ◌∙◌, subst, arith}
+use Rattle.std.specs.Prelude.{◌==◌, take, drop}
 use Rattle.std.proofs.lemmas.Bool.Decides.{nat_tests}
 use Rattle.wg_machine.specs.declared.launch.Live.{Live}
 use Rattle.wg_machine.specs.State.{kept}
 use Rattle.wg_machine.specs.Step.{left_after, is_among}
-use Rattle.wg_machine.specs.Grids.{without_group, same_group}
+use Rattle.wg_machine.specs.Grids.{without_group}
 use Rattle.wg_core.specs.Standing.{Rises, origin}
-use Rattle.wg_core.specs.Choice.{first_group}
-use Rattle.wg_core.proofs.Commute.{live_with, ran, append_nil}
+use Rattle.wg_core.proofs.Commute.{live_with, ran}
 use Rattle.wg_core.proofs.Rising.{numbers}
 use Rattle.wg_core.proofs.Allowed.{same_self}
 

@@ -1,9 +1,8 @@
 -- No group stands twice in a grid.
-use Rattle.std.proofs.Common.{◌≡◌, ℕ, zero, suc, ◌+◌, ◌<◌, ◌≤◌, Bool, true, false, cond, List, [], ◌∷◌, ◌++◌, length, map, refl, ap, sym, ◌∙◌, subst, arith}
-use Rattle.std.specs.Prelude.{if◌then◌else◌, ◌==◌, ◌&&◌, slice_index, nat_le}
+use Rattle.std.proofs.Common.{◌≡◌, ℕ, zero, suc, ◌+◌, ◌<◌, ◌≤◌, Bool, true, false, List, [], ◌∷◌, ◌++◌, map, refl, sym, subst, arith}
+use Rattle.std.specs.Prelude.{◌==◌, ◌&&◌, slice_index, nat_le}
 use Rattle.std.specs.List.{flat_map, range_with_len}
 use Rattle.std.proofs.lemmas.Bool.Decides.{nat_tests}
-use Rattle.wg_machine.specs.declared.launch.Live.{Live}
 use Rattle.wg_machine.specs.declared.launch.Sent.{Sent}
 use Rattle.wg_machine.specs.declared.shape.Shape.{Shape}
 use Rattle.wg_machine.specs.Run.{times}
@@ -59,12 +58,12 @@ both false q r = omega arith
 pub times_grid : (at grid : List ℕ) → times at (groups_of grid) ≤ 1
 times_grid at grid =
     at_most (nat_le 0 (slice_index at 2)) 1 (times at (groups_of grid)) (
-      planes at _ (slice_index at 2) 1 0 (slice_index grid 2) (λ z.
-        at_most (nat_le 0 (slice_index at 1)) (pay (z == slice_index at 2) 1) _ (
-          planes at _ (slice_index at 1) (pay (z == slice_index at 2) 1) 0 (slice_index grid 1) (λ y.
-            at_most (nat_le 0 (slice_index at 0)) (pay (y == slice_index at 1) (pay (z == slice_index at 2) 1)) _ (
-              rows at (λ x. x ∷ y ∷ z ∷ []) (slice_index at 0) (pay (y == slice_index at 1) (pay (z == slice_index at 2) 1)) 0 (slice_index grid 0) (λ x.
-                both (x == slice_index at 0) (y == slice_index at 1) (z == slice_index at 2)))))))
+    planes at _ (slice_index at 2) 1 0 (slice_index grid 2) (λ z.
+    at_most (nat_le 0 (slice_index at 1)) (pay (z == slice_index at 2) 1) _ (
+    planes at _ (slice_index at 1) (pay (z == slice_index at 2) 1) 0 (slice_index grid 1) (λ y.
+    at_most (nat_le 0 (slice_index at 0)) (pay (y == slice_index at 1) (pay (z == slice_index at 2) 1)) _ (
+    rows at (λ x. x ∷ y ∷ z ∷ []) (slice_index at 0) (pay (y == slice_index at 1) (pay (z == slice_index at 2) 1)) 0 (slice_index grid 0) (λ x.
+    both (x == slice_index at 0) (y == slice_index at 1) (z == slice_index at 2)))))))
 
 pub distinct_born : (shape : Shape) (n : ℕ) (ss : List Sent) → EachDistinct (flat_map kept (born shape n ss))
 distinct_born shape n [] = tt
@@ -90,6 +89,6 @@ each_flat P f s (suc n) h = each_append P (f s) (flat_map f (range_with_len (s +
 pub within_grid : (grid : List ℕ) → Each (IsWithin grid) (groups_of grid)
 within_grid grid =
     each_flat (IsWithin grid) _ 0 (slice_index grid 2) (λ z low_z high_z.
-      each_flat (IsWithin grid) _ 0 (slice_index grid 1) (λ y low_y high_y.
-        each_mapped (IsWithin grid) (λ x. x ∷ y ∷ z ∷ []) 0 (slice_index grid 0) (λ x low_x high_x.
-          record { x = omega arith; y = omega arith; z = omega arith })))
+    each_flat (IsWithin grid) _ 0 (slice_index grid 1) (λ y low_y high_y.
+    each_mapped (IsWithin grid) (λ x. x ∷ y ∷ z ∷ []) 0 (slice_index grid 0) (λ x low_x high_x.
+    record { x = omega arith; y = omega arith; z = omega arith })))

@@ -1,9 +1,9 @@
 -- What a store says of room and of the record to open next.
-use Rattle.std.proofs.Common.{◌≡◌, ◌≢◌, ℕ, zero, suc, ◌+◌, ◌*◌, ◌<◌, ◌≤◌, Bool, true, false, List, [], ◌∷◌, ◌++◌, length, map, refl, ap, sym, ◌∙◌, subst, arith, inl, inr, ◌⊎◌, Option, None, Some, unwrap_or, get_or, ◌↔◌, take, drop, length-append, ◌-◌}
+use Rattle.std.proofs.Common.{◌≡◌, ℕ, zero, suc, ◌+◌, ◌*◌, ◌<◌, ◌≤◌, Bool, true, false, List, [], ◌∷◌, ◌++◌, length, map, refl, ap, sym, ◌∙◌, subst, arith, inl, inr, ◌⊎◌, Option, None, Some, unwrap_or, get_or, take, drop, length-append, ◌-◌}
 use Rattle.std.specs.Prelude.{slice_get, slice_index, nat_le, ◌==◌, ◌&&◌, sum_by, count_by, IsSome}
 use Rattle.std.specs.Option.{option_map}
 use Rattle.std.specs.List.{range_with_len}
-use Rattle.std.proofs.lemmas.Bool.Decides.{nat_tests, Decides-eqb}
+use Rattle.std.proofs.lemmas.Bool.Decides.{nat_tests}
 use Rattle.std.proofs.lemmas.List.Sums.{sum_by-cons}
 use Rattle.std.proofs.lemmas.List.FromFn.{length-map-range_with_len, get_or-map-range_with_len}
 use Rattle.wg_machine.specs.declared.shape.Shape.{Shape}
@@ -19,12 +19,12 @@ use Rattle.wg_machine.specs.LaunchMeaning.{Arrives}
 use Rattle.std.proofs.lemmas.Option.{slice_get_read}
 use Rattle.wg_core.specs.Moves.{bytes_of, used_more}
 use Rattle.wg_core.specs.Standing.{in_slot}
-use Rattle.wg_core.specs.Store.{Kept, KeptHasRoom, NoneBelow, IsBestBelow, BestBelow, ComesBefore, IsNeeds, ArrivesIn, thread_born, thread_live}
+use Rattle.wg_core.specs.Store.{Kept, KeptHasRoom, NoneBelow, IsBestBelow, BestBelow, ComesBefore, ArrivesIn, thread_born, thread_live}
 use Rattle.wg_core.specs.StoreInside.{IsStore, kept_of}
 use Rattle.wg_core.proofs.Blocks.{le_or}
 use Rattle.wg_core.proofs.Bounds.{most_few}
 use Rattle.wg_core.proofs.Counting.{count_cons, pay}
-use Rattle.wg_core.proofs.Shapes.{need_none, needs_no_more}
+use Rattle.wg_core.proofs.Shapes.{need_none}
 use Rattle.wg_core.proofs.Slotting.{past_end, times_few}
 
 -- a row of a table is that of a unit
@@ -58,11 +58,11 @@ says_needs shape rows u row good are e =
       at = λ v. elim (le_or n v) [
         | inl past ↦ past_end row v (omega (arith, many, past)) ∙ sym (need_none shape u v good past)
         | inr within ↦ (
-          let z : 0 + v ≡ v = omega arith in
-          ap (λ (xs : List ℕ). slice_index xs v) r.row_is
-          ∙ get_or-map-range_with_len (need_of r.node) 0 n v v 0 within z
-          ∙ sym (ap (λ (w : Option Node). unwrap_or (option_map (λ (m : Node). need_of m v) w) 0) r.there)
-        )
+            let z : 0 + v ≡ v = omega arith in
+            ap (λ (xs : List ℕ). slice_index xs v) r.row_is
+            ∙ get_or-map-range_with_len (need_of r.node) 0 n v v 0 within z
+            ∙ sym (ap (λ (w : Option Node). unwrap_or (option_map (λ (m : Node). need_of m v) w) 0) r.there)
+            )
       ];
     }
 
@@ -86,10 +86,10 @@ holds_room s u row store e holds v =
     elim (le_or (length s.shape.units) v) [
       | inl past ↦ (let r = store.room v in let z = need_none s.shape u v store.good past in omega (arith, r, z))
       | inr within ↦ (
-        let h = holds v (omega (arith, many, within)) in
-        let m = ap (λ (k : ℕ). s.width * k) (most_at s.shape s.needs.most v store.needs.most within) in
-        omega (arith, h, is, m)
-      )
+          let h = holds v (omega (arith, many, within)) in
+          let m = ap (λ (k : ℕ). s.width * k) (most_at s.shape s.needs.most v store.needs.most within) in
+          omega (arith, h, is, m)
+          )
     ]
 
 pub room_holds : (s : Inside) (u : ℕ) (row : List ℕ) → IsStore s → slice_get s.needs.rows u ≡ Some row → KeptHasRoom (kept_of s) u → Holds s row
@@ -136,9 +136,9 @@ same_there k n i x y e f q =
 
 pub no_better : (k : Kept) (n : ℕ) (x : Live) (best : Option ℕ) → slice_get k.waiting n ≡ Some x → (KeptHasRoom k x.unit → ⊥) → BestBelow k n best → BestBelow k (n + 1) best
 no_better k n x None there full none = λ i y h e room. elim (same_or_below i n h) [
-      | inl below ↦ none i y below e room
-      | inr q ↦ full (subst (KeptHasRoom k) (ap (λ (z : Live). z.unit) (same_there k n i x y there e q)) room)
-    ]
+  | inl below ↦ none i y below e room
+  | inr q ↦ full (subst (KeptHasRoom k) (ap (λ (z : Live). z.unit) (same_there k n i x y there e q)) room)
+]
 no_better k n x (Some at) there full b =
     record {
       live = b.live;

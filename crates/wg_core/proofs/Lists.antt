@@ -1,14 +1,13 @@
 -- Lists by unit.
-use Rattle.std.proofs.Common.{◌≡◌, ℕ, zero, suc, ◌+◌, ◌<◌, ◌≤◌, Bool, true, false, ◌||◌, cond, List, [], ◌∷◌, ◌++◌, length, map, refl, ap, sym, ◌∙◌, subst, arith, inl, inr, ◌⊎◌}
-use Rattle.std.specs.Prelude.{if◌then◌else◌, ◌==◌, ◌&&◌, filter, count_by, nat_le}
-use Rattle.std.proofs.lemmas.List.Sums.{sum_by-cons}
+use Rattle.std.proofs.Common.{◌≡◌, ℕ, zero, suc, ◌+◌, Bool, true, false, List, [], ◌∷◌, ◌++◌, map, refl, ap, sym, ◌∙◌}
+use Rattle.std.specs.Prelude.{if◌then◌else◌, ◌==◌, ◌&&◌, filter, nat_le}
 use Rattle.wg_machine.specs.declared.launch.Live.{Live}
 use Rattle.wg_machine.specs.State.{kept}
 use Rattle.wg_machine.specs.Step.{left_after, is_among}
 use Rattle.wg_machine.specs.Grids.{without_group}
-use Rattle.wg_core.specs.Standing.{by_unit, counts, in_slot, is_entry}
+use Rattle.wg_core.specs.Standing.{by_unit, in_slot}
 use Rattle.wg_core.specs.Moves.{all_more}
-use Rattle.wg_core.proofs.Commute.{append_nil, live_with, ran, left_append}
+use Rattle.wg_core.proofs.Commute.{live_with, ran}
 
 -- a test of unit and number alone
 abbrev pub Test : Type 0

@@ -1,5 +1,5 @@
 -- The sums of needs, step by step.
-use Rattle.std.proofs.Common.{◌≡◌, ℕ, zero, suc, ◌+◌, ◌<◌, ◌≤◌, Bool, true, false, List, [], ◌∷◌, length, map, refl, ap, sym, ◌∙◌, subst, arith, drop, get_or, drop-cons, max}
+use Rattle.std.proofs.Common.{◌≡◌, ℕ, suc, ◌+◌, ◌<◌, Bool, List, length, ap, sym, ◌∙◌, arith, drop, get_or, drop-cons}
 use Rattle.wg_machine.specs.declared.shape.Output.{Output}
 use Rattle.wg_machine.specs.Need.{reaches, need_from}
 use Rattle.wg_core.proofs.Counting.{pay}

@@ -1,22 +1,18 @@
 -- A launch that what is not yet opened allows is one that the bag allows, apart from those that are out.
-use Rattle.std.proofs.Common.{◌≡◌, ℕ, zero, suc, ◌+◌, ◌<◌, ◌≤◌, Bool, true, false, ◌||◌, cond, List, [], ◌∷◌, ◌++◌, length, map, refl, ap, sym, ◌∙◌, subst, arith, inl, inr, ◌⊎◌}
-use Rattle.std.specs.Prelude.{if◌then◌else◌, ◌==◌, ◌&&◌, filter}
-use Rattle.std.proofs.lemmas.Bool.Decides.{nat_tests, Decides-eqb}
+use Rattle.std.proofs.Common.{◌≡◌, ℕ, ◌+◌, ◌≤◌, Bool, true, false, ◌||◌, cond, List, [], ◌∷◌, ◌++◌, map, refl, ap, sym, ◌∙◌, subst, arith, inl, inr, ◌⊎◌}
+use Rattle.std.specs.Prelude.{if◌then◌else◌, ◌==◌}
 use Rattle.std.proofs.lemmas.List.Sums.{sum_by-cons}
-use Rattle.wg_core.specs.declared.pending.Pending.{Pending}
 use Rattle.wg_machine.specs.declared.launch.Live.{Live}
 use Rattle.wg_machine.specs.declared.launch.Record.{Record}
-use Rattle.wg_machine.specs.declared.shape.Shape.{Shape}
 use Rattle.wg_machine.specs.State.{kept}
-use Rattle.wg_machine.specs.Step.{left_after, is_among, taken, record_of, numbers_of, IsReady, Allows}
+use Rattle.wg_machine.specs.Step.{left_after, is_among, taken, record_of, IsReady}
 use Rattle.wg_machine.specs.Grids.{without_group, same_group, has_group}
 use Rattle.wg_machine.specs.Run.{times}
-use Rattle.wg_core.specs.Outs.{numbers_out, after_one, unopened, IsApart, ApartFromAll, AllApart, AllAllowed}
 use Rattle.wg_core.specs.Standing.{Rises, EachDistinct}
 use Rattle.wg_words.specs.Each.{Each}
-use Rattle.wg_core.proofs.Commute.{append_nil, live_with, ran, left_append, same_as}
-use Rattle.wg_core.proofs.Allowed.{has_cases, has_here, has_more, same_self, same_sym, taken_append, taken_kept_not, taken_ran_not}
-use Rattle.wg_core.proofs.Rising.{rises_left, numbers, among_none, among_first, among_kept, among_ran}
+use Rattle.wg_core.proofs.Commute.{live_with, ran, same_as}
+use Rattle.wg_core.proofs.Allowed.{has_cases, has_here, has_more, taken_append, taken_ran_not}
+use Rattle.wg_core.proofs.Rising.{rises_left, numbers, among_none, among_ran}
 
 pub times_cons : (at g : List ℕ) (gs : List (List ℕ)) → times at (g ∷ gs) ≡ (if same_group g at then 1 else 0) + times at gs
 times_cons at g gs = sum_by-cons (λ (h : List ℕ). cond (same_group h at) 1 0) g gs

@@ -1,6 +1,6 @@
 -- A core opens: the store chooses the choice of the core, and leaves what its launch leaves.
-use Rattle.std.proofs.Common.{◌≡◌, ◌≢◌, ℕ, zero, suc, ◌+◌, ◌<◌, ◌≤◌, Bool, true, false, List, [], ◌∷◌, ◌++◌, length, map, refl, ap, sym, ◌∙◌, subst, arith, None, Some, Option, inl, inr, ◌⊎◌, unwrap_or, drop, remove}
-use Rattle.std.specs.Prelude.{if◌then◌else◌, ◌==◌, ◌&&◌, filter, slice_get, slice_index, nat_le, take_while, IfSome}
+use Rattle.std.proofs.Common.{◌≡◌, ℕ, zero, suc, ◌+◌, ◌<◌, ◌≤◌, Bool, true, false, List, [], ◌∷◌, ◌++◌, length, refl, ap, sym, ◌∙◌, subst, arith, None, Some, Option, inl, inr, ◌⊎◌, unwrap_or, drop, remove}
+use Rattle.std.specs.Prelude.{if◌then◌else◌, ◌==◌, ◌&&◌, filter, slice_get, nat_le, take_while, IfSome}
 use Rattle.std.proofs.lemmas.Bool.Decides.{nat_tests, Decides-eqb}
 use Rattle.std.proofs.lemmas.List.Sums.{sum_by_push}
 use Rattle.std.proofs.lemmas.List.{length_push}
@@ -20,10 +20,10 @@ use Rattle.wg_core.specs.Core.{CoreView}
 use Rattle.wg_core.specs.Inside.{IsSound, is_in_slot, now_of}
 use Rattle.wg_core.specs.Moves.{with_out}
 use Rattle.wg_core.specs.Outs.{after_one, numbers_out, unopened}
-use Rattle.wg_core.specs.Standing.{EachFull, EachKnown, IsFull, Rises, by_unit, in_slot, is_entry, origin, reserved}
-use Rattle.wg_core.specs.Store.{Chooses, EntryHasRoom, IsBare, IsBestBelow, Kept, KeptHasRoom, NoneBelow, Takes, record_at, thread_pending, without}
-use Rattle.wg_core.specs.Tables.{IsIdle, SomeIsOut}
-use Rattle.wg_core.proofs.Blocks.{by_unit_at, idle_empty, le_or, never_blocks}
+use Rattle.wg_core.specs.Standing.{EachFull, EachKnown, IsFull, Rises, by_unit, in_slot, is_entry, origin}
+use Rattle.wg_core.specs.Store.{Chooses, IsBare, IsBestBelow, Kept, KeptHasRoom, NoneBelow, Takes, record_at, thread_pending, without}
+use Rattle.wg_core.specs.Tables.{SomeIsOut}
+use Rattle.wg_core.proofs.Blocks.{by_unit_at, le_or, never_blocks}
 use Rattle.wg_core.proofs.Bounds.{at_each}
 use Rattle.wg_core.proofs.Bytes.{full_left}
 use Rattle.wg_core.proofs.Chosen.{choice_fine}
@@ -169,11 +169,11 @@ is_pick k r places at x s b same rest front =
       waits = subst (λ (xs : List Live). 0 < length xs) (sym front) (omega arith);
       room = room_to k r places s x.unit (subst (λ (y : Live). KeptHasRoom k y.unit) same b.room);
       best = λ v h room. (
-        let f = found_at k r v h in
-        let rank = b.best f.place f.live (get_below k.waiting f.place f.live f.there) f.there (subst (KeptHasRoom k) (sym f.unit_is) (room_from k r places s v room)) in
-        subst (λ (w : ℕ). (depth_at k.shape w < depth_at k.shape x.unit) ⊎ ((depth_at k.shape w ≡ depth_at k.shape x.unit) × (x.unit ≤ w))) f.unit_is
-        (subst (λ (y : Live). (depth_at k.shape f.live.unit < depth_at k.shape y.unit) ⊎ ((depth_at k.shape f.live.unit ≡ depth_at k.shape y.unit) × (y.unit ≤ f.live.unit))) same rank)
-      );
+          let f = found_at k r v h in
+          let rank = b.best f.place f.live (get_below k.waiting f.place f.live f.there) f.there (subst (KeptHasRoom k) (sym f.unit_is) (room_from k r places s v room)) in
+          subst (λ (w : ℕ). (depth_at k.shape w < depth_at k.shape x.unit) ⊎ ((depth_at k.shape w ≡ depth_at k.shape x.unit) × (x.unit ≤ w))) f.unit_is
+          (subst (λ (y : Live). (depth_at k.shape f.live.unit < depth_at k.shape y.unit) ⊎ ((depth_at k.shape f.live.unit ≡ depth_at k.shape y.unit) × (y.unit ≤ f.live.unit))) same rank)
+          );
     }
   where
     length_by_unit : (handed v n : ℕ) (xs : List Live) → length (by_unit handed v n xs) ≡ n
@@ -311,11 +311,11 @@ opened_sound k l r places more place x s e op choice running few room =
       placed = opened_placed core s.bag o f.ticket few f.room f.inputs s.placed f.allowed;
       waiting = waiting_of k l place x.unit op ∙ left.waiting ∙ ap (left_after (x.number ∷ []) origin) s.waiting ∙ those_left (λ u m. nat_le k.handed m) (x.number ∷ []) origin (unopened r.outs s.bag) ∙ ap (filter (is_in_slot k.handed)) (sym (unopened_append r.outs (o ∷ []) s.bag));
       reserves = λ v. (
-        let a = op.reserved v in
-        let b = s.reserves v in
-        let c = sum_by_push (λ (p : Pending). need k.shape p.launch.unit v) r.outs o in
-        omega (arith, a, b, c)
-      );
+          let a = op.reserved v in
+          let b = s.reserves v in
+          let c = sum_by_push (λ (p : Pending). need k.shape p.launch.unit v) r.outs o in
+          omega (arith, a, b, c)
+          );
       good = s.good;
       threads = s.threads;
       wide = s.wide;

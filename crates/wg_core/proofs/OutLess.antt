@@ -1,10 +1,10 @@
 -- A core that settles a launch stands for what it stood for.
-use Rattle.std.proofs.Common.{◌≡◌, ◌≢◌, ℕ, zero, suc, ◌+◌, ◌*◌, ◌<◌, ◌≤◌, Bool, true, false, cond, List, [], ◌∷◌, ◌++◌, length, map, refl, ap, sym, ◌∙◌, subst, arith, None, Some, Option, inl, inr, ◌⊎◌, length-append}
-use Rattle.std.specs.Prelude.{filter, nat_le, IfSome, Contains, slice_index, slice_index_or, count_by, sum_by, if◌then◌else◌, ◌==◌, ◌&&◌, max}
+use Rattle.std.proofs.Common.{◌≡◌, ℕ, zero, suc, ◌+◌, ◌≤◌, Bool, true, false, cond, List, [], ◌∷◌, ◌++◌, length, refl, ap, sym, ◌∙◌, subst, arith, None, Some, Option}
+use Rattle.std.specs.Prelude.{filter, nat_le, IfSome, slice_index, count_by, ◌==◌, ◌&&◌, max}
 use Rattle.std.specs.List.{flat_map}
-use Rattle.std.proofs.lemmas.List.Sums.{sum_by_push, sum_by-append, sum_by-cons}
+use Rattle.std.proofs.lemmas.List.Sums.{sum_by_push, sum_by-cons}
 use Rattle.std.proofs.lemmas.List.{length_push}
-use Rattle.std.proofs.lemmas.Bool.Decides.{nat_tests, Decides-eqb}
+use Rattle.std.proofs.lemmas.Bool.Decides.{nat_tests}
 use Rattle.wg_core.specs.declared.pending.Pending.{Pending}
 use Rattle.wg_machine.specs.declared.launch.Entry.{Entry}
 use Rattle.wg_machine.specs.declared.launch.Live.{Live}
@@ -13,24 +13,23 @@ use Rattle.wg_machine.specs.declared.shape.Shape.{Shape}
 use Rattle.wg_machine.specs.Buffers.{Buffers}
 use Rattle.wg_machine.specs.State.{State, kept, born, start as start_of}
 use Rattle.wg_machine.specs.LaunchMeaning.{Meaning, Outcome, Arrives}
-use Rattle.wg_machine.specs.Step.{Passed, Step, Allows, left_after, state_after, entry_of, is_among, numbers_of, taken}
-use Rattle.wg_machine.specs.Run.{IsRun, denied_of}
-use Rattle.wg_machine.specs.Bytes.{live_bytes, peak as peak_of, least}
-use Rattle.wg_machine.specs.Need.{need, most}
+use Rattle.wg_machine.specs.Step.{Passed, Step, Allows, entry_of, is_among, numbers_of, taken}
+use Rattle.wg_machine.specs.Run.{IsRun}
+use Rattle.wg_machine.specs.Bytes.{live_bytes, peak as peak_of}
+use Rattle.wg_machine.specs.Need.{need}
 use Rattle.wg_core.specs.Outs.{numbers_out, after_one, unopened, AllAllowed, AllApart}
 use Rattle.wg_core.specs.Standing.{Rises, EachDistinct, IsPlaced, StandsFor, TicketsDiffer, TicketsBelow, AllNamed, IsNotOut, reserved, by_unit, counts, in_slot, is_entry, IsSpent, EachKnown}
 use Rattle.wg_core.specs.Core.{CoreView}
-use Rattle.wg_core.specs.Moves.{TakesStep, settled_of, freed, is_still, all_more, used_more, bytes_of}
-use Rattle.wg_core.specs.Choice.{UnitHasRoom}
+use Rattle.wg_core.specs.Moves.{settled_of, freed, is_still, all_more, used_more, bytes_of}
 use Rattle.wg_words.specs.Each.{Each}
 use Rattle.wg_core.proofs.Slots.{slots_kept, states_more}
 use Rattle.wg_machine.specs.Bytes.{KeepsSlots}
-use Rattle.wg_core.proofs.Commute.{unopened_append, unopened_settled, unopened_both, append_nil}
+use Rattle.wg_core.proofs.Commute.{unopened_settled, unopened_both, append_nil}
 use Rattle.wg_core.proofs.Rising.{rises_left, rises_append, rises_kept, rises_born, numbers}
 use Rattle.wg_core.proofs.Lists.{by_unit_append, those_append}
 use Rattle.wg_core.proofs.Outs.{allowed_settled, all_without, one_of, apart_settled, unopened_new, distinct_left, distinct_append, numbers_taken}
-use Rattle.wg_core.proofs.Counting.{count_left, count_gone, agrees, count_append, opposite, pay, empties, is_nil, EachAgrees}
-use Rattle.wg_core.proofs.Still.{still, bool_eq, known_left, known_append}
+use Rattle.wg_core.proofs.Counting.{count_left, count_gone, agrees, count_append, opposite, pay}
+use Rattle.wg_core.proofs.Still.{still, known_left, known_append}
 use Rattle.wg_core.proofs.Bytes.{used_are, counts_more, count_born, known_born, bytes_are, peak_more, full_append, full_left, full_born, words_append, words_left, words_born}
 
 pub run_more : (shape : Shape) (made : Meaning) (turns : ℕ) (s : State) (js : List Entry) (ps : List Passed) (t : State) (e : Entry) (p : Passed) → IsRun shape made turns s js ps t → Step shape made turns t e p → IsRun shape made turns s (js ++ e ∷ []) (ps ++ p ∷ []) p.after
@@ -163,16 +162,16 @@ settled_placed core bag before o later outcome was_out needs newly s =
       words = words_append shape less fresh (words_left shape nums o.at bag s.words) (words_born shape core.next sent needs.arrive);
       used = used;
       room = λ v. (
-        let a = counts_more core.handed 0 n v (need shape o.launch.unit) bag (less ++ fresh) grows in
-        let z : 0 + v ≡ v = omega arith in
-        let a' = subst (λ (k : ℕ). slice_index (counts core.handed 0 n (less ++ fresh)) v ≤ slice_index (counts core.handed 0 n bag) v + need shape o.launch.unit k) z a in
-        let b = ap (λ (us : List ℕ). slice_index us v) used in
-        let c = ap (λ (us : List ℕ). slice_index us v) s.used in
-        let d = s.room v in
-        let e = reserved_without shape v before o later in
-        let f = ap (λ (os : List Pending). reserved shape os v) was_out in
-        omega (arith, a', b, c, d, e, f)
-      );
+          let a = counts_more core.handed 0 n v (need shape o.launch.unit) bag (less ++ fresh) grows in
+          let z : 0 + v ≡ v = omega arith in
+          let a' = subst (λ (k : ℕ). slice_index (counts core.handed 0 n (less ++ fresh)) v ≤ slice_index (counts core.handed 0 n bag) v + need shape o.launch.unit k) z a in
+          let b = ap (λ (us : List ℕ). slice_index us v) used in
+          let c = ap (λ (us : List ℕ). slice_index us v) s.used in
+          let d = s.room v in
+          let e = reserved_without shape v before o later in
+          let f = ap (λ (os : List Pending). reserved shape os v) was_out in
+          omega (arith, a', b, c, d, e, f)
+          );
     }
 
 pub settled_stands : (made : Meaning) (script : List Sent) (start : Buffers) (core : CoreView) (before : List Pending) (o : Pending) (later : List Pending) (outcome : Outcome) → core.stopped ≡ None → core.outs ≡ before ++ o ∷ later → made o.launch core.buffers core.limits.turns ≡ Some outcome → KeepsNeeds core.shape o.launch.unit outcome.sent → EachDistinct (flat_map kept (born core.shape core.next outcome.sent)) → StandsFor made script start core → StandsFor made script start (settled_of core before o later outcome)

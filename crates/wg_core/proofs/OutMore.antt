@@ -1,19 +1,18 @@
 -- A core that opens a launch stands for what it stood for.
-use Rattle.std.proofs.Common.{◌≡◌, ◌≢◌, ℕ, zero, suc, ◌+◌, ◌<◌, ◌≤◌, Bool, true, false, List, [], ◌∷◌, ◌++◌, length, map, refl, ap, sym, ◌∙◌, subst, arith, None, Option, inl, inr, ◌⊎◌}
-use Rattle.std.specs.Prelude.{filter, nat_le, IfSome, Contains, slice_index, slice_index_or}
+use Rattle.std.proofs.Common.{◌≡◌, ◌≢◌, ℕ, ◌+◌, ◌<◌, List, [], ◌∷◌, ◌++◌, length, map, ap, sym, ◌∙◌, subst, arith, None, Option}
+use Rattle.std.specs.Prelude.{filter, nat_le, IfSome}
 use Rattle.std.proofs.lemmas.List.Sums.{sum_by_push}
 use Rattle.std.proofs.lemmas.List.{length_push}
 use Rattle.wg_core.specs.declared.pending.Pending.{Pending}
 use Rattle.wg_machine.specs.declared.launch.Live.{Live}
 use Rattle.wg_machine.specs.declared.launch.Sent.{Sent}
-use Rattle.wg_machine.specs.declared.shape.Shape.{Shape}
 use Rattle.wg_machine.specs.Buffers.{Buffers}
 use Rattle.wg_machine.specs.LaunchMeaning.{Meaning}
 use Rattle.wg_machine.specs.Step.{Allows, left_after}
-use Rattle.wg_machine.specs.Need.{need, most}
+use Rattle.wg_machine.specs.Need.{need}
 use Rattle.wg_core.specs.Outs.{numbers_out, unopened}
 use Rattle.wg_core.specs.Core.{CoreView}
-use Rattle.wg_core.specs.Standing.{IsPlaced, StandsFor, TicketsDiffer, TicketsBelow, AllNamed, IsNotOut, reserved, by_unit, is_entry, IsSpent}
+use Rattle.wg_core.specs.Standing.{IsPlaced, StandsFor, TicketsDiffer, TicketsBelow, AllNamed, IsNotOut, by_unit, is_entry, IsSpent}
 use Rattle.wg_core.specs.Moves.{with_out}
 use Rattle.wg_core.specs.Choice.{UnitHasRoom}
 use Rattle.wg_core.proofs.Commute.{unopened_append}
@@ -30,11 +29,10 @@ not_out_more t (p ∷ outs) o a b = (a.0, not_out_more t outs o a.1 b)
 
 pub differ_more : (n : ℕ) (outs : List Pending) (o : Pending) → TicketsBelow n outs → o.ticket ≡ n → TicketsDiffer outs → TicketsDiffer (outs ++ o ∷ [])
 differ_more n [] o b e d = (tt, tt)
-differ_more n (q ∷ outs) o b e d =
-    (
-      not_out_more q.ticket outs o d.0 (λ (same : o.ticket ≡ q.ticket). let low = b.0 in absurd (omega arith)),
-      differ_more n outs o b.1 e d.1,
-    )
+differ_more n (q ∷ outs) o b e d = (
+  not_out_more q.ticket outs o d.0 (λ (same : o.ticket ≡ q.ticket). let low = b.0 in absurd (omega arith)),
+  differ_more n outs o b.1 e d.1,
+)
 
 named_more : (outs : List Pending) (o : Pending) → AllNamed outs → o.inputs ≡ numbers_out o → AllNamed (outs ++ o ∷ [])
 named_more [] o a e = (e, tt)

@@ -1,11 +1,8 @@
 -- Launches that are out, as one opens and one settles.
-use Rattle.std.proofs.Common.{◌≡◌, ℕ, zero, suc, ◌+◌, ◌<◌, ◌≤◌, Bool, true, false, ◌||◌, cond, List, [], ◌∷◌, ◌++◌, length, map, refl, ap, sym, ◌∙◌, subst, arith, inl, inr, ◌⊎◌}
-use Rattle.std.specs.Prelude.{if◌then◌else◌, ◌==◌, ◌&&◌, filter}
-use Rattle.std.proofs.lemmas.Bool.Decides.{nat_tests, Decides-eqb}
-use Rattle.std.proofs.lemmas.List.Sums.{sum_by-cons}
+use Rattle.std.proofs.Common.{◌≡◌, ℕ, ◌+◌, ◌<◌, ◌≤◌, Bool, true, false, List, [], ◌∷◌, ◌++◌, map, refl, ap, sym, ◌∙◌, subst, arith, inl, inr}
+use Rattle.std.specs.Prelude.{if◌then◌else◌}
 use Rattle.wg_core.specs.declared.pending.Pending.{Pending}
 use Rattle.wg_machine.specs.declared.launch.Live.{Live}
-use Rattle.wg_machine.specs.declared.launch.Record.{Record}
 use Rattle.wg_machine.specs.declared.shape.Shape.{Shape}
 use Rattle.wg_machine.specs.State.{kept}
 use Rattle.wg_machine.specs.Step.{left_after, is_among, taken, record_of, numbers_of, IsReady, Allows}
@@ -14,10 +11,10 @@ use Rattle.wg_machine.specs.Run.{times}
 use Rattle.wg_core.specs.Outs.{numbers_out, after_one, unopened, IsApart, ApartFromAll, AllApart, AllAllowed}
 use Rattle.wg_core.specs.Standing.{Rises, EachDistinct}
 use Rattle.wg_words.specs.Each.{Each}
-use Rattle.wg_core.proofs.Commute.{append_nil, live_with, ran, left_append, unopened_both}
+use Rattle.wg_core.proofs.Commute.{append_nil, live_with, ran}
 use Rattle.wg_core.proofs.Allowed.{same_sym, taken_append, stays_allowed}
-use Rattle.wg_core.proofs.Rising.{rises_left, numbers, among_none, among_first, among_kept, among_ran}
-use Rattle.wg_core.proofs.Opening.{was, WasReady, times_cons, among_taken}
+use Rattle.wg_core.proofs.Rising.{rises_left, numbers, among_first}
+use Rattle.wg_core.proofs.Opening.{was, times_cons, among_taken}
 
 pub numbers_taken : (xs : List Live) → numbers_of (map record_of xs) ≡ numbers xs
 numbers_taken [] = refl
@@ -148,11 +145,10 @@ apart_sym p q a = λ n e f. same_sym q.at p.at ∙ a n f e
 -- each launch out but the one that settles stays allowed, on what its step leaves
 pub allowed_settled : (shape : Shape) (next end : ℕ) (bag new : List Live) (o : Pending) (outs : List Pending) → Rises 0 bag next → Rises next new end → ApartFromAll o outs → AllAllowed shape bag outs → AllAllowed shape (after_one o bag ++ new) outs
 allowed_settled shape next end bag new o [] rises rise apart all = tt
-allowed_settled shape next end bag new o (p ∷ outs) rises rise apart all =
-    (
-      allowed_born shape next end (after_one o bag) new p rise (out_below shape next bag p rises all.0) (stays_allowed shape bag o p apart.0 all.0),
-      allowed_settled shape next end bag new o outs rises rise apart.1 all.1,
-    )
+allowed_settled shape next end bag new o (p ∷ outs) rises rise apart all = (
+  allowed_born shape next end (after_one o bag) new p rise (out_below shape next bag p rises all.0) (stays_allowed shape bag o p apart.0 all.0),
+  allowed_settled shape next end bag new o outs rises rise apart.1 all.1,
+)
 
 pub all_without : (shape : Shape) (bag : List Live) (xs : List Pending) (o : Pending) (ys : List Pending) → AllAllowed shape bag (xs ++ o ∷ ys) → AllAllowed shape bag (xs ++ ys)
 all_without shape bag [] o ys all = all.1

@@ -1,9 +1,8 @@
 -- A core settles: what its store leaves is what the step of the launch leaves.
-use Rattle.std.proofs.Common.{◌≡◌, ◌≢◌, ℕ, zero, suc, ◌+◌, ◌*◌, ◌^◌, ◌<◌, ◌≤◌, Bool, true, false, List, [], ◌∷◌, ◌++◌, length, map, refl, ap, sym, ◌∙◌, subst, arith, None, Some, Option, take, drop, remove, max}
+use Rattle.std.proofs.Common.{◌≡◌, ℕ, zero, suc, ◌+◌, ◌^◌, ◌<◌, ◌≤◌, Bool, true, false, List, [], ◌∷◌, ◌++◌, length, map, refl, ap, sym, ◌∙◌, subst, arith, None, Some, Option, take, drop, remove, max}
 use Rattle.std.specs.Prelude.{if◌then◌else◌, ◌==◌, ◌&&◌, filter, slice_get, slice_index, nat_le, count_by, IfSome}
 use Rattle.std.specs.List.{flat_map}
-use Rattle.std.proofs.lemmas.Bool.Decides.{nat_tests, Decides-eqb}
-use Rattle.std.proofs.lemmas.List.Sums.{sum_by-cons}
+use Rattle.std.proofs.lemmas.Bool.Decides.{nat_tests}
 use Rattle.std.proofs.lemmas.List.{length_push}
 use Rattle.wg_words.specs.Each.{Each}
 use Rattle.wg_machine.specs.declared.shape.Shape.{Shape}
@@ -15,7 +14,7 @@ use Rattle.wg_machine.specs.declared.launch.Record.{Record}
 use Rattle.wg_machine.specs.declared.launch.Sent.{Sent}
 use Rattle.wg_machine.specs.Buffers.{Buffers}
 use Rattle.wg_machine.specs.GoodShape.{IsGoodShape}
-use Rattle.wg_machine.specs.LaunchMeaning.{Arrives, FitsShape, KeepsBudgets, KeepsLaws, Outcome}
+use Rattle.wg_machine.specs.LaunchMeaning.{FitsShape, KeepsBudgets, KeepsLaws, Outcome}
 use Rattle.wg_machine.specs.Need.{need, need_of}
 use Rattle.wg_machine.specs.State.{born, kept}
 use Rattle.wg_machine.specs.Step.{Allows, IsReady, entry_of, is_among, left_after, numbers_of, record_of, taken}
@@ -25,7 +24,7 @@ use Rattle.wg_core.specs.Core.{CoreView}
 use Rattle.wg_core.specs.Inside.{IsSound, is_in_slot, now_of}
 use Rattle.wg_core.specs.Moves.{all_more, bytes_of, freed, is_still, settled_of, used_more}
 use Rattle.wg_core.specs.Outs.{AllAllowed, AllApart, after_one, numbers_out, unopened}
-use Rattle.wg_core.specs.Standing.{AllNamed, EachKnown, IsPlaced, by_unit, counts, in_slot, reserved}
+use Rattle.wg_core.specs.Standing.{AllNamed, EachKnown, IsPlaced, by_unit, reserved}
 use Rattle.wg_core.specs.Store.{CanSettle, Kept, Settles, frees, thread_born}
 use Rattle.wg_core.specs.Tables.{SomeIsOut}
 use Rattle.wg_core.proofs.Bounds.{sent_few}
@@ -202,11 +201,11 @@ can_settle k r places before o later sent s was_out few =
       few = few.needs.few;
       total = few.total;
       reserves = λ v. (
-        let a = s.reserves v in
-        let b = reserved_without k.shape v before o later in
-        let c = ap (λ (os : List Pending). reserved k.shape os v) was_out in
-        omega (arith, a, b, c)
-      );
+          let a = s.reserves v in
+          let b = reserved_without k.shape v before o later in
+          let c = ap (λ (os : List Pending). reserved k.shape os v) was_out in
+          omega (arith, a, b, c)
+          );
       unit = t.fits.unit;
       frees = t.frees_within;
       later = s.placed.handed;
@@ -278,18 +277,18 @@ settled_sound k l r places before o later outcome s was_out running few denied o
       bag = less ++ fresh;
       placed = settled_placed core s.bag before o later outcome was_out few.needs (distinct_born k.shape r.next sent) s.placed;
       waiting =
-        ap (λ (m : Kept). m.waiting) op.lists
-        ∙ ap (λ (ws : List Live). ws ++ thread_born r.next sent) (s.waiting ∙ ap (filter (is_in_slot k.handed)) lesser_is.ready)
-        ∙ ap (λ (ws : List Live). filter (is_in_slot k.handed) (unopened rest less) ++ ws) (sym slots)
-        ∙ sym (those_append (λ u m. nat_le k.handed m) (unopened rest less) fresh)
-        ∙ ap (filter (is_in_slot k.handed)) (sym more);
+          ap (λ (m : Kept). m.waiting) op.lists
+          ∙ ap (λ (ws : List Live). ws ++ thread_born r.next sent) (s.waiting ∙ ap (filter (is_in_slot k.handed)) lesser_is.ready)
+          ∙ ap (λ (ws : List Live). filter (is_in_slot k.handed) (unopened rest less) ++ ws) (sym slots)
+          ∙ sym (those_append (λ u m. nat_le k.handed m) (unopened rest less) fresh)
+          ∙ ap (filter (is_in_slot k.handed)) (sym more);
       reserves = λ v. (
-        let a = op.reserved v in
-        let b = s.reserves v in
-        let c = reserved_without k.shape v before o later in
-        let d = ap (λ (os : List Pending). reserved k.shape os v) was_out in
-        omega (arith, a, b, c, d)
-      );
+          let a = op.reserved v in
+          let b = s.reserves v in
+          let c = reserved_without k.shape v before o later in
+          let d = ap (λ (os : List Pending). reserved k.shape os v) was_out in
+          omega (arith, a, b, c, d)
+          );
       good = s.good;
       threads = s.threads;
       wide = s.wide;

@@ -1,16 +1,13 @@
 -- Counts of slots by unit, changed one at a time.
-use Rattle.std.proofs.Common.{◌≡◌, ◌≢◌, ℕ, zero, suc, ◌+◌, ◌-◌, ◌*◌, ◌<◌, ◌≤◌, Bool, true, false, List, [], ◌∷◌, ◌++◌, length, map, refl, ap, sym, ◌∙◌, subst, arith, drop, take, get_or, set, drop-cons}
-use Rattle.std.specs.Prelude.{if◌then◌else◌, ◌==◌, ◌&&◌, nat_le, count_by, slice_index, slice_set}
-use Rattle.std.specs.List.{range_with_len}
-use Rattle.std.proofs.lemmas.Bool.Decides.{nat_tests, Decides-eqb}
-use Rattle.std.proofs.lemmas.List.Sums.{sum_by-cons}
+use Rattle.std.proofs.Common.{◌≡◌, ◌≢◌, ℕ, zero, suc, ◌+◌, ◌-◌, ◌*◌, ◌<◌, ◌≤◌, Bool, true, false, List, [], ◌∷◌, ◌++◌, length, refl, ap, sym, ◌∙◌, subst, arith, drop, take, get_or, set, drop-cons}
+use Rattle.std.specs.Prelude.{◌==◌, ◌&&◌, nat_le, count_by, slice_index}
+use Rattle.std.proofs.lemmas.Bool.Decides.{nat_tests}
 use Rattle.wg_words.specs.Each.{Each}
 use Rattle.wg_machine.specs.declared.shape.Shape.{Shape}
 use Rattle.wg_machine.specs.declared.launch.Live.{Live}
 use Rattle.wg_machine.specs.Units.{stride_at}
 use Rattle.wg_core.specs.Moves.{bytes_of, used_more}
 use Rattle.wg_core.specs.Standing.{in_slot}
-use Rattle.wg_core.specs.Store.{ArrivesIn}
 use Rattle.wg_core.proofs.Counting.{count_cons, count_append, pay}
 
 -- past its end a list has 0

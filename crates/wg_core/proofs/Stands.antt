@@ -1,5 +1,5 @@
 -- What a core stands for, through its calls.
-use Rattle.std.proofs.Common.{◌≡◌, ◌≢◌, ℕ, zero, suc, ◌+◌, ◌<◌, ◌≤◌, List, [], ◌∷◌, ◌++◌, length, refl, ap, sym, ◌∙◌, subst, arith, None, Some, Option}
+use Rattle.std.proofs.Common.{◌≡◌, ℕ, suc, ◌+◌, ◌<◌, List, [], ◌∷◌, ◌++◌, length, refl, sym, subst, arith, None, Option}
 use Rattle.std.specs.Prelude.{IfSome, Contains}
 use Rattle.wg_machine.specs.declared.shape.Shape.{Shape}
 use Rattle.wg_machine.specs.declared.launch.Launch.{Launch}
@@ -15,8 +15,8 @@ use Rattle.wg_core.specs.declared.engine.Settled.TheVariants as settled
 use Rattle.wg_core.specs.Choice.{IsChoice}
 use Rattle.wg_core.specs.Core.{CoreView}
 use Rattle.wg_core.specs.Moves.{TakesStep, with_out}
-use Rattle.wg_core.specs.Standing.{IsPlaced, IsSpent, StandsFor}
-use Rattle.wg_core.specs.Tables.{IsOut, Opens, Settles}
+use Rattle.wg_core.specs.Standing.{StandsFor}
+use Rattle.wg_core.specs.Tables.{Opens, Settles}
 use Rattle.wg_core.proofs.Chosen.{choice_fine}
 use Rattle.wg_core.proofs.Fitting.{out_fits}
 use Rattle.wg_core.proofs.Grids.{distinct_born}

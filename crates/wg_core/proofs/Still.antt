@@ -1,5 +1,5 @@
 -- Which records are still there after a step.
-use Rattle.std.proofs.Common.{◌≡◌, ℕ, zero, suc, ◌+◌, ◌-◌, ◌<◌, ◌≤◌, Bool, true, false, ◌||◌, cond, List, [], ◌∷◌, ◌++◌, length, map, refl, ap, sym, ◌∙◌, subst, arith, inl, inr, ◌⊎◌}
+use Rattle.std.proofs.Common.{◌≡◌, ℕ, zero, suc, ◌+◌, ◌<◌, ◌≤◌, Bool, true, false, ◌||◌, List, [], ◌∷◌, ◌++◌, length, refl, ap, sym, ◌∙◌, subst, arith, inl, inr, ◌⊎◌}
 use Rattle.std.specs.Prelude.{if◌then◌else◌, ◌==◌, ◌&&◌, filter, nat_le}
 use Rattle.std.specs.List.{list_any}
 use Rattle.std.proofs.lemmas.Bool.Decides.{nat_tests, Decides-eqb}
@@ -7,7 +7,7 @@ use Rattle.wg_core.specs.declared.pending.Pending.{Pending}
 use Rattle.wg_machine.specs.declared.launch.Live.{Live}
 use Rattle.wg_machine.specs.declared.shape.Shape.{Shape}
 use Rattle.wg_machine.specs.State.{kept}
-use Rattle.wg_machine.specs.Step.{left_after, is_among, Allows}
+use Rattle.wg_machine.specs.Step.{left_after, is_among}
 use Rattle.wg_machine.specs.Grids.{without_group}
 use Rattle.wg_core.specs.Outs.{numbers_out, after_one, unopened, AllAllowed}
 use Rattle.wg_core.specs.Standing.{by_unit, in_slot, EachKnown}

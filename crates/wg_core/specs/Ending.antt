@@ -1,5 +1,5 @@
 -- How a core ends, by its store and its fields.
-use Rattle.std.specs.Prelude.{◌≡◌, ◌≢◌, ℕ, List, [], Option, Some, None, slice_get}
+use Rattle.std.specs.Prelude.{◌≡◌, ℕ, List, [], Option, Some, None, slice_get}
 use Rattle.wg_machine.specs.declared.launch.Launch.{Launch}
 use Rattle.wg_machine.specs.declared.launch.Limits.{Limits}
 use Rattle.wg_core.specs.declared.pending.Pending.{Pending}

@@ -1,5 +1,5 @@
 -- Inside a core: what waits, in plain lists, and the slots in use.
-use Rattle.std.specs.Prelude.{◌≡◌, ◌≢◌, ◌⊎◌, ⊤, ℕ, ◌<◌, ◌+◌, ◌≤◌, ◌*◌, ◌==◌, List, [], ◌∷◌, ◌++◌, length, map, Option, Some, None, slice_index, slice_get, nat_le, false, count_by, remove, drop, replicate}
+use Rattle.std.specs.Prelude.{◌≡◌, ◌≢◌, ◌⊎◌, ℕ, ◌<◌, ◌+◌, ◌≤◌, ◌==◌, List, [], ◌∷◌, ◌++◌, length, map, Option, Some, None, slice_index, slice_get, nat_le, false, count_by, remove, drop, replicate}
 use Rattle.std.specs.List.{range_with_len}
 use Rattle.wg_words.specs.Each.{Each}
 use Rattle.wg_machine.specs.declared.shape.Kind.TheVariants.{Thread}
@@ -18,7 +18,7 @@ use Rattle.wg_core.specs.declared.store.Place.{Place}
 use Rattle.wg_core.specs.declared.store.Place.TheVariants.{Waiting, Entry}
 use Rattle.wg_core.specs.Choice.{first_unit}
 use Rattle.wg_core.specs.Moves.{used_more}
-use Rattle.wg_core.specs.Standing.{origin, reserved}
+use Rattle.wg_core.specs.Standing.{origin}
 
 -- each unit is a thread node
 abbrev pub AllThread : Shape → Type 0

@@ -1,7 +1,6 @@
 -- What the calls of a core answer, and what they leave. This project's own.
 use Rattle.std.specs.Prelude.{◌≡◌, ◌≢◌, ◌⊎◌, ℕ, ◌<◌, ◌+◌, List, [], ◌∷◌, ◌++◌, length, Some, None}
 use Rattle.wg_words.specs.Each.{Each}
-use Rattle.wg_machine.specs.declared.launch.Launch.{Launch}
 use Rattle.wg_machine.specs.declared.launch.Live.{Live}
 use Rattle.wg_machine.specs.LaunchMeaning.{Meaning}
 use Rattle.wg_core.specs.declared.engine.Opened.{Opened}

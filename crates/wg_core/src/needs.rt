@@ -100,9 +100,7 @@ fn need_in(unit: &Unit, target: usize) -> u32
 fn is_reached(outputs: &[Output], budget: usize, target: usize) -> bool
     ensures { result ≡ reaches outputs.now budget target }
 {
-    outputs
-        .iter()
-        .any(|output| sends(output, budget, target))
+    outputs.iter().any(|output| sends(output, budget, target))
 }
 
 fn sends(output: &Output, budget: usize, target: usize) -> bool

@@ -1,4 +1,4 @@
-use Rattle.std.proofs.Common.{◌≡◌, ◌<◌, ap, subst, sym, ◌∙◌, arith, List}
+use Rattle.std.proofs.Common.{◌≡◌, ap, subst, ◌∙◌, arith, List}
 use Rattle.std.proofs.lemmas.Option.{slice_get_within, get_or_from_slice_get}
 use Rattle.wg_core.specs.declared.pending.Pending.{Pending}
 use Rattle.wg_core.specs.Inside.{IsAt}

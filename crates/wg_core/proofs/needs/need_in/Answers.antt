@@ -1,6 +1,6 @@
-use Rattle.std.proofs.Common.{◌≡◌, ◌<◌, ◌≤◌, ◌+◌, ℕ, Bool, true, false, List, length, arith, get_or, ◌∙◌, sym, ap}
+use Rattle.std.proofs.Common.{◌≡◌, ℕ, true, false, List, arith, ◌∙◌, sym, ap}
 use Rattle.wg_machine.specs.declared.shape.Output.{Output}
-use Rattle.wg_machine.specs.Need.{reaches, need_from, need_of}
+use Rattle.wg_machine.specs.Need.{reaches, need_from}
 use Rattle.wg_core.proofs.Bounds.{need_few}
 use Rattle.wg_core.proofs.Needing.{sum_next}
 use Rattle.wg_core.proofs.needs.need_in.Goals as goal

@@ -1,4 +1,4 @@
-use Rattle.std.proofs.Common.{arith, length, ◌≤◌}
+use Rattle.std.proofs.Common.{arith, ◌≤◌}
 use Rattle.wg_core.proofs.Bounds.{units_few}
 use Rattle.wg_core.proofs.Slotting.{times_few}
 use Rattle.wg_core.proofs.store.bytes_in.Goals as goal

@@ -1,9 +1,9 @@
-use Rattle.std.proofs.Common.{◌≡◌, ◌<◌, ◌≤◌, ◌+◌, ℕ, List, length, arith, sym, ◌∙◌, ap, set, take, length-take-le}
+use Rattle.std.proofs.Common.{◌<◌, ◌+◌, ℕ, List, length, arith, sym, ◌∙◌, ap, set, take, length-take-le}
 use Rattle.std.specs.Prelude.{slice_index}
 use Rattle.wg_machine.specs.declared.launch.Live.{Live}
 use Rattle.wg_core.specs.Moves.{used_more}
 use Rattle.wg_core.specs.Store.{ArrivesIn}
-use Rattle.wg_core.proofs.Slotting.{used_freed, used_next, used_few, length_more, take_next, each_index}
+use Rattle.wg_core.proofs.Slotting.{used_freed, used_next, used_few, take_next, each_index}
 use Rattle.wg_core.proofs.store.change.Goals as goal
 
 pub loop-live-init : goal.loop-live-init

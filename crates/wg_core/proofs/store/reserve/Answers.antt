@@ -1,6 +1,4 @@
-use Rattle.std.proofs.Common.{◌≡◌, ◌≢◌, ◌<◌, ◌≤◌, ◌+◌, ℕ, length, arith, sym, ◌∙◌, ap, set, get_or, get_or-set_other, get_or-set_same, below_more, length-set}
-use Rattle.std.specs.Prelude.{slice_index}
-use Rattle.wg_core.proofs.Slotting.{past_end}
+use Rattle.std.proofs.Common.{arith}
 use Rattle.wg_core.proofs.store.reserve.Goals as goal
 
 pub overflow_add-reserved : goal.overflow_add-reserved

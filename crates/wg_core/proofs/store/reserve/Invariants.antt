@@ -1,4 +1,4 @@
-use Rattle.std.proofs.Common.{◌≡◌, ℕ, ◌≤◌, ◌+◌, ◌<◌, length}
+use Rattle.std.proofs.Common.{◌≡◌, ℕ, ◌≤◌, ◌+◌, ◌<◌}
 use Rattle.std.specs.Prelude.{slice_index}
 use Rattle.wg_core.proofs.store.reserve.Given as goal
 

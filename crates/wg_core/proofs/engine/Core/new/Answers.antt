@@ -1,7 +1,7 @@
 use Rattle.std.proofs.Common.{◌≡◌, [], sym, subst}
 use Rattle.std.proofs.lemmas.Result.{IfOk-weaker}
 use Rattle.wg_machine.specs.LaunchMeaning.{Meaning}
-use Rattle.wg_core.specs.Core.{CoreView, begun}
+use Rattle.wg_core.specs.Core.{begun}
 use Rattle.wg_core.specs.Standing.{StandsFor}
 use Rattle.wg_core.proofs.Begun.{begun_stands}
 use Rattle.wg_core.proofs.engine.Core.new.Goals as goal

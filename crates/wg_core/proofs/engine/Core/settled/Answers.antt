@@ -1,5 +1,5 @@
-use Rattle.std.proofs.Common.{rules, ◌≡◌, ◌≤◌, ◌<◌, ◌+◌, ◌^◌, [], ◌∷◌, ◌++◌, length, List, None, Some, ℕ, Option, refl, ap, sym, subst, arith, vec_len, ◌∙◌, vec_capacity, take, drop, suc}
-use Rattle.std.specs.Prelude.{slice_get, remove, max, ◌==◌, if◌then◌else◌}
+use Rattle.std.proofs.Common.{rules, ◌≡◌, ◌<◌, ◌+◌, ◌^◌, [], ◌∷◌, ◌++◌, length, List, None, Some, ℕ, refl, ap, sym, subst, arith, ◌∙◌, vec_capacity, take, drop, suc}
+use Rattle.std.specs.Prelude.{max, ◌==◌, if◌then◌else◌}
 use Rattle.std.proofs.lemmas.Option.{slice_get_within, get_or_from_slice_get}
 use Rattle.wg_machine.specs.declared.shape.Shape.{Shape}
 use Rattle.wg_machine.specs.declared.launch.Entry.{Entry}
@@ -11,8 +11,8 @@ use Rattle.wg_core.specs.Core.{CoreView}
 use Rattle.wg_core.specs.Inside.{IsAt, IsSound, now_of}
 use Rattle.wg_core.specs.Moves.{TakesStep, bytes_of, settled_of}
 use Rattle.wg_core.specs.Outs.{numbers_out}
-use Rattle.wg_core.specs.Standing.{AllNamed, IsPlaced}
-use Rattle.wg_core.specs.Store.{CanSettle, Kept, Settles}
+use Rattle.wg_core.specs.Standing.{AllNamed}
+use Rattle.wg_core.specs.Store.{CanSettle, Settles}
 use Rattle.wg_core.proofs.Openings.{Rest, seen}
 use Rattle.wg_core.proofs.Settlings.{SendsFew, can_settle, named_at, parted, removed, sends_few, settled_sound, settled_view, settling}
 use Rattle.wg_core.proofs.engine.Core.settled.Goals as goal

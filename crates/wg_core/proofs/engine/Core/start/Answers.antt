@@ -1,9 +1,5 @@
-use Rattle.std.proofs.Common.{◌≡◌, ◌≤◌, [], List, length, sym, ap, subst, ◌∙◌, arith, None, vec_capacity}
-use Rattle.wg_machine.specs.declared.launch.Entry.{Entry}
-use Rattle.wg_core.specs.declared.pending.Pending.{Pending}
-use Rattle.wg_core.specs.Core.{CoreView, begun}
-use Rattle.wg_core.specs.Inside.{IsSound, now_of}
-use Rattle.wg_core.specs.Store.{Kept, kept_begun}
+use Rattle.std.proofs.Common.{arith, vec_capacity}
+use Rattle.wg_core.specs.Store.{kept_begun}
 use Rattle.wg_core.proofs.Beginning.{begun_sound, begun_view}
 use Rattle.wg_core.proofs.engine.Core.start.Goals as goal
 

@@ -1,8 +1,7 @@
-use Rattle.std.proofs.Common.{◌≡◌, ◌≤◌, ◌<◌, ◌+◌, ◌*◌, ◌↔◌, ℕ, List, length, sym, ◌∙◌, ap, subst, refl}
-use Rattle.std.specs.Prelude.{IsTrue, slice_index}
+use Rattle.std.proofs.Common.{◌↔◌, ℕ, List, length, sym, ◌∙◌, ap, subst}
+use Rattle.std.specs.Prelude.{IsTrue}
 use Rattle.wg_core.specs.Store.{Kept, KeptHasRoom}
-use Rattle.wg_core.specs.StoreInside.{kept_of}
-use Rattle.wg_core.proofs.Keeping.{Holds, holds_room, room_holds, no_row_room, says_needs, most_many}
+use Rattle.wg_core.proofs.Keeping.{Holds, holds_room, room_holds, says_needs, most_many}
 use Rattle.wg_core.proofs.store.Store.has_room.Goals as goal
 
 pub fits-requires-clause-used : goal.fits-requires-clause-used

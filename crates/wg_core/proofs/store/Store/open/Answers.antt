@@ -1,4 +1,4 @@
-use Rattle.std.proofs.Common.{◌≡◌, ◌≤◌, ◌<◌, ◌+◌, ◌*◌, ℕ, List, length, sym, ◌∙◌, ap, subst, refl, arith, vec_len, drop, remove}
+use Rattle.std.proofs.Common.{◌≡◌, ◌<◌, ℕ, List, length, sym, ◌∙◌, ap, subst, arith, vec_len}
 use Rattle.std.specs.Prelude.{slice_get, slice_index, IsSome}
 use Rattle.std.specs.Vec.{with_items}
 use Rattle.wg_machine.specs.declared.launch.Live.{Live}
@@ -6,7 +6,7 @@ use Rattle.wg_core.specs.declared.store.Place.{Place}
 use Rattle.wg_core.specs.declared.store.Place.TheVariants.{Waiting, Entry}
 use Rattle.wg_core.specs.Store.{Kept, KeptHasRoom, Takes, record_at}
 use Rattle.wg_core.specs.StoreInside.{kept_of}
-use Rattle.wg_core.proofs.Keeping.{SaysNeeds, row_says, slots_small, some_within}
+use Rattle.wg_core.proofs.Keeping.{row_says, slots_small, some_within}
 use Rattle.wg_core.proofs.Slotting.{refilled}
 use Rattle.wg_core.proofs.store.Store.open.Goals as goal
 
@@ -52,14 +52,14 @@ invariant_of-self c =
       all_used = i.all_used;
       all_reserved = ap (λ (xs : List ℕ). length xs) kept ∙ long ∙ i.all_reserved;
       room = λ v. (
-        let is = n.at v in
-        let room = subst (λ (k : Kept). KeptHasRoom k c.args.unit) (sym c.self.view_is) c.requires.room v in
-        let e = ap (λ (xs : List ℕ). slice_index xs v) kept in
-        let r = c.reserve.ensures v in
-        let a = ap (λ (xs : List ℕ). slice_index xs v) c.as_slice-2.ensures in
-        let b = ap (λ (xs : List ℕ). slice_index xs v) c.as_mut_slice.ensures.value in
-        omega (arith, is, room, e, r, a, b)
-      );
+          let is = n.at v in
+          let room = subst (λ (k : Kept). KeptHasRoom k c.args.unit) (sym c.self.view_is) c.requires.room v in
+          let e = ap (λ (xs : List ℕ). slice_index xs v) kept in
+          let r = c.reserve.ensures v in
+          let a = ap (λ (xs : List ℕ). slice_index xs v) c.as_slice-2.ensures in
+          let b = ap (λ (xs : List ℕ). slice_index xs v) c.as_mut_slice.ensures.value in
+          omega (arith, is, room, e, r, a, b)
+          );
     }
 
 pub returns-in-Waiting : goal.returns-in-Waiting
@@ -74,13 +74,13 @@ returns-in-Waiting c =
     subst (λ (p : Place). Takes c.args.self.now new p c.args.unit) (sym c.in-Waiting.is) (subst (λ (k : Kept). Takes k new (Waiting c.in-Waiting.at) c.args.unit) c.self.view_is (record {
       lists = ap (λ (ws : List Live). (let k : Kept = record new { waiting = ws } in k)) c.remove.ensures.items;
       reserved = λ v. (
-        let is = n.at v in
-        let e = ap (λ (xs : List ℕ). slice_index xs v) kept in
-        let r = c.reserve.ensures v in
-        let a = ap (λ (xs : List ℕ). slice_index xs v) c.as_slice-2.ensures in
-        let b = ap (λ (xs : List ℕ). slice_index xs v) c.as_mut_slice.ensures.value in
-        omega (arith, is, e, r, a, b)
-      );
+          let is = n.at v in
+          let e = ap (λ (xs : List ℕ). slice_index xs v) kept in
+          let r = c.reserve.ensures v in
+          let a = ap (λ (xs : List ℕ). slice_index xs v) c.as_slice-2.ensures in
+          let b = ap (λ (xs : List ℕ). slice_index xs v) c.as_mut_slice.ensures.value in
+          omega (arith, is, e, r, a, b)
+          );
     }))
 
 pub invariant_of-self-in-Entry : goal.invariant_of-self-in-Entry
@@ -99,14 +99,14 @@ invariant_of-self-in-Entry c =
       all_used = i.all_used;
       all_reserved = ap (λ (xs : List ℕ). length xs) kept ∙ long ∙ i.all_reserved;
       room = λ v. (
-        let is = n.at v in
-        let room = subst (λ (k : Kept). KeptHasRoom k c.args.unit) (sym c.self.view_is) c.requires.room v in
-        let e = ap (λ (xs : List ℕ). slice_index xs v) kept in
-        let r = c.reserve.ensures v in
-        let a = ap (λ (xs : List ℕ). slice_index xs v) c.as_slice-2.ensures in
-        let b = ap (λ (xs : List ℕ). slice_index xs v) c.as_mut_slice.ensures.value in
-        omega (arith, is, room, e, r, a, b)
-      );
+          let is = n.at v in
+          let room = subst (λ (k : Kept). KeptHasRoom k c.args.unit) (sym c.self.view_is) c.requires.room v in
+          let e = ap (λ (xs : List ℕ). slice_index xs v) kept in
+          let r = c.reserve.ensures v in
+          let a = ap (λ (xs : List ℕ). slice_index xs v) c.as_slice-2.ensures in
+          let b = ap (λ (xs : List ℕ). slice_index xs v) c.as_mut_slice.ensures.value in
+          omega (arith, is, room, e, r, a, b)
+          );
     }
 
 pub returns-in-Entry : goal.returns-in-Entry
@@ -121,11 +121,11 @@ returns-in-Entry c =
     subst (λ (p : Place). Takes c.args.self.now new p c.args.unit) (sym c.in-Entry.is) (subst (λ (k : Kept). Takes k new Entry c.args.unit) c.self.view_is (record {
       lists = ap (λ (es : List Live). (let k : Kept = record new { entries = es } in k)) c.drop_front.ensures;
       reserved = λ v. (
-        let is = n.at v in
-        let e = ap (λ (xs : List ℕ). slice_index xs v) kept in
-        let r = c.reserve.ensures v in
-        let a = ap (λ (xs : List ℕ). slice_index xs v) c.as_slice-2.ensures in
-        let b = ap (λ (xs : List ℕ). slice_index xs v) c.as_mut_slice.ensures.value in
-        omega (arith, is, e, r, a, b)
-      );
+          let is = n.at v in
+          let e = ap (λ (xs : List ℕ). slice_index xs v) kept in
+          let r = c.reserve.ensures v in
+          let a = ap (λ (xs : List ℕ). slice_index xs v) c.as_slice-2.ensures in
+          let b = ap (λ (xs : List ℕ). slice_index xs v) c.as_mut_slice.ensures.value in
+          omega (arith, is, e, r, a, b)
+          );
     }))

@@ -1,4 +1,4 @@
-use Rattle.std.proofs.Common.{◌≡◌, ◌*◌, ℕ, List, length, sym, ◌∙◌, ap, subst, arith}
+use Rattle.std.proofs.Common.{◌≡◌, ◌*◌, ℕ, List, length, ◌∙◌, ap, subst}
 use Rattle.wg_machine.specs.Bytes.{plan_bytes}
 use Rattle.wg_core.specs.Moves.{bytes_of}
 use Rattle.wg_core.specs.Store.{Kept}

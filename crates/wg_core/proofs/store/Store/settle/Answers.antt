@@ -1,13 +1,12 @@
-use Rattle.std.proofs.Common.{◌≡◌, ◌≤◌, ◌<◌, ◌+◌, ◌-◌, ◌*◌, ℕ, List, [], ◌∷◌, ◌++◌, length, sym, ◌∙◌, ap, subst, refl, arith, vec_len, drop, take}
-use Rattle.std.specs.Prelude.{slice_get, slice_index, count_by, nat_le, ◌==◌}
+use Rattle.std.proofs.Common.{◌≡◌, ◌-◌, ℕ, List, ◌++◌, length, sym, ◌∙◌, ap, subst, arith, vec_len, drop, take}
+use Rattle.std.specs.Prelude.{slice_index, count_by, nat_le}
 use Rattle.std.specs.Vec.{with_items}
 use Rattle.wg_words.specs.Each.{Each}
 use Rattle.wg_machine.specs.declared.launch.Live.{Live}
-use Rattle.wg_machine.specs.declared.launch.Sent.{Sent}
 use Rattle.wg_core.specs.Moves.{used_more}
 use Rattle.wg_core.specs.Store.{Kept, CanSettle, Settles, ArrivesIn, thread_born, frees}
 use Rattle.wg_core.specs.StoreInside.{kept_of}
-use Rattle.wg_core.proofs.Keeping.{SaysNeeds, row_says, slots_small, tail_is, length_born, born_arrive, used_within}
+use Rattle.wg_core.proofs.Keeping.{row_says, slots_small, tail_is, length_born, born_arrive, used_within}
 use Rattle.wg_core.proofs.Slotting.{refilled, length_more}
 use Rattle.wg_core.proofs.store.Store.settle.Goals as goal
 
@@ -73,17 +72,17 @@ invariant_of-self-2 c =
       all_used = ap (λ (xs : List ℕ). length xs) used_kept ∙ used_long ∙ i.all_used;
       all_reserved = ap (λ (xs : List ℕ). length xs) kept ∙ long ∙ i.all_reserved;
       room = λ v. (
-        let is = n.at v in
-        let room = i.room v in
-        let few = can.few v in
-        let u = ap (λ (xs : List ℕ). slice_index xs v) (used_kept ∙ changed) in
-        let w = used_within s.handed v c.args.next unit c.in_slots-gone.result c.args.sent s.used.items in
-        let e = ap (λ (xs : List ℕ). slice_index xs v) kept in
-        let r = c.give_back.ensures v in
-        let a = ap (λ (xs : List ℕ). slice_index xs v) c.as_slice-4.ensures in
-        let b = ap (λ (xs : List ℕ). slice_index xs v) c.as_mut_slice-2.ensures.value in
-        omega (arith, is, room, few, u, w, e, r, a, b)
-      );
+          let is = n.at v in
+          let room = i.room v in
+          let few = can.few v in
+          let u = ap (λ (xs : List ℕ). slice_index xs v) (used_kept ∙ changed) in
+          let w = used_within s.handed v c.args.next unit c.in_slots-gone.result c.args.sent s.used.items in
+          let e = ap (λ (xs : List ℕ). slice_index xs v) kept in
+          let r = c.give_back.ensures v in
+          let a = ap (λ (xs : List ℕ). slice_index xs v) c.as_slice-4.ensures in
+          let b = ap (λ (xs : List ℕ). slice_index xs v) c.as_mut_slice-2.ensures.value in
+          omega (arith, is, room, few, u, w, e, r, a, b)
+          );
     }
 
 pub returns-clause-ok : goal.returns-clause-ok
@@ -108,11 +107,11 @@ returns-clause-ok c =
     subst (λ (k : Kept). Settles k new o c.args.next c.args.sent) c.self.view_is (record {
       lists = ap (λ (ws : List Live). (let k : Kept = record new { waiting = ws } in k)) waits_are ∙ ap (λ (us : List ℕ). (let k : Kept = record new { waiting = s.waiting.items ++ thread_born c.args.next c.args.sent; used = us } in k)) used_is;
       reserved = λ v. (
-        let is = n.at v in
-        let e = ap (λ (xs : List ℕ). slice_index xs v) kept in
-        let r = c.give_back.ensures v in
-        let a = ap (λ (xs : List ℕ). slice_index xs v) c.as_slice-4.ensures in
-        let b = ap (λ (xs : List ℕ). slice_index xs v) c.as_mut_slice-2.ensures.value in
-        omega (arith, is, e, r, a, b)
-      );
+          let is = n.at v in
+          let e = ap (λ (xs : List ℕ). slice_index xs v) kept in
+          let r = c.give_back.ensures v in
+          let a = ap (λ (xs : List ℕ). slice_index xs v) c.as_slice-4.ensures in
+          let b = ap (λ (xs : List ℕ). slice_index xs v) c.as_mut_slice-2.ensures.value in
+          omega (arith, is, e, r, a, b)
+          );
     })

@@ -114,10 +114,6 @@ sum_some outputs c o has e = go outputs has.0 has.1 has.2
         let ih = go xs k (omega arith) q in
         omega (arith, s, ih)
 
-sum_none : (outputs : List Output) → sum_by (λ (o : Output). count_by (λ b. b == o.budget) []) outputs ≡ 0
-sum_none [] = refl
-sum_none (o ∷ outputs) = let s = sum_by-cons (λ (o : Output). count_by (λ b. b == o.budget) []) o outputs in let ih = sum_none outputs in omega (arith, s, ih)
-
 sum_same : {X : Type 0} → (f g : X → ℕ) (xs : List X) → ((x : X) → f x ≡ g x) → sum_by f xs ≡ sum_by g xs
 sum_same f g [] h = refl
 sum_same f g (x ∷ xs) h =
@@ -159,13 +155,6 @@ sent_few u sent few budgets keeps =
     let a = through_outputs u keeps.through sent keeps.each_goes in
     let b = sum_few u.outputs (λ (o : Output). count_by (λ b. b == o.budget) keeps.through) (λ o. (let c = keeps.few o.budget in let d = budget_few u.budgets o.budget budgets in omega (arith, c, d))) in
     omega (arith, a, b, few)
-
-pub stride_few : (shape : Shape) (u : ℕ) → IsGoodShape shape → stride_at shape u ≤ 8192
-stride_few shape u good = go (slice_get shape.units u) refl
-  where
-    go : (n : Option Node) → slice_get shape.units u ≡ n → unwrap_or (option_map (λ (n : Node). n.stride) n) 0 ≤ 8192
-    go None e = omega arith
-    go (Some n) e = let g = good.units u n e in let s = g.stride in let w = g.words in omega (arith, s, w)
 
 levels_many : (node d : ℕ) → length (levels node d) ≡ suc d
 levels_many node zero = refl

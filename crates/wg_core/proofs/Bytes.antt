@@ -24,9 +24,6 @@ use Rattle.wg_core.proofs.Commute.{live_with, ran}
 use Rattle.wg_core.proofs.Counting.{count_cons, count_append, pay}
 use Rattle.wg_core.proofs.Still.{in_range, within_range}
 
-test_sym : (m n : ℕ) → (m == n) ≡ (n == m)
-test_sym m n = grind (arith, nat_tests)
-
 -- the slots in use, after some are given back and new records come
 pub used_are : (handed v n unit gone : ℕ) (bag after fresh : List Live) → ((w : ℕ) → count_by (in_slot handed w) bag ≡ count_by (in_slot handed w) after + pay (w == unit) gone) → used_more handed v unit gone fresh (counts handed v n bag) ≡ counts handed v n (after ++ fresh)
 used_are handed v zero unit gone bag after fresh h = refl

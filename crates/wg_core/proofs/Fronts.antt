@@ -39,23 +39,3 @@ fronts_leave (suc k) lo end (x ∷ xs) r w =
     let here : ran true origin x ≡ [] = ap (λ (gs : List (List ℕ)). kept (live_with x.number x.unit x.words (without_group origin gs))) w.0 in
     let among : is_among (x.number ∷ numbers (take k xs)) x.number ≡ true = rw (self_eq x.number) refl in
     subst (λ (b : Bool). ran b origin x ++ left_after (x.number ∷ numbers (take k xs)) origin xs ≡ drop k xs) (sym among) (ap (λ (first : List Live). first ++ left_after (x.number ∷ numbers (take k xs)) origin xs) here ∙ rest)
-
--- of a record with groups left, the first group leaves
-pub first_group_leaves : (lo end number unit : ℕ) (words g : List ℕ) (gs : List (List ℕ)) (xs : List Live) → Rises lo (live_with number unit words (g ∷ gs) ∷ xs) end → left_after (number ∷ []) g (live_with number unit words (g ∷ gs) ∷ xs) ≡ kept (live_with number unit words gs) ++ xs
-first_group_leaves lo end number unit words g gs xs r =
-    let rest = left_skip number (number + 1) end [] g xs r.1 (omega arith) ∙ left_none g xs in
-    let among : is_among (number ∷ []) number ≡ true = rw (self_eq number) refl in
-    let here : without_group g (g ∷ gs) ≡ gs = rw (same_self g) refl in
-    subst (λ (b : Bool). ran b g (live_with number unit words (g ∷ gs)) ++ left_after (number ∷ []) g xs ≡ kept (live_with number unit words gs) ++ xs) (sym among)
-    (ap (λ (hs : List (List ℕ)). kept (live_with number unit words hs) ++ left_after (number ∷ []) g xs) here ∙ ap (λ (ys : List Live). kept (live_with number unit words gs) ++ ys) rest)
-
--- a list with none of the numbers stays
-pub others_stay : (nums at : List ℕ) (xs : List Live) → ((x : ℕ) → is_among (numbers xs) x ≡ true → is_among nums x ≡ false) → left_after nums at xs ≡ xs
-others_stay nums at [] h = refl
-others_stay nums at (x ∷ xs) h =
-    let e = h x.number (rw (self_eq x.number) refl) in
-    rw e (ap (λ (rest : List Live). x ∷ rest) (others_stay nums at xs (λ n f. h n (or_more (x.number == n) (is_among (numbers xs) n) f))))
-  where
-    or_more : (a b : Bool) → b ≡ true → (a || b) ≡ true
-    or_more true b f = refl
-    or_more false b f = f

@@ -38,11 +38,6 @@ row_of [] n u row e = absurd (cc)
 row_of (w ∷ units) n zero row e = let q : map (need_of w) (range_with_len 0 n) ≡ row = cc in record { node = w; there = refl; row_is = sym q }
 row_of (w ∷ units) n (suc u) row e = let r = row_of units n u row e in record { node = r.node; there = r.there; row_is = r.row_is }
 
-no_row : (units : List Node) (n u : ℕ) → slice_get (map (λ (w : Node). map (need_of w) (range_with_len 0 n)) units) u ≡ None → slice_get units u ≡ None
-no_row [] n u e = refl
-no_row (w ∷ units) n zero e = absurd (cc)
-no_row (w ∷ units) n (suc u) e = no_row units n u e
-
 -- what a row of needs says
 pub record SaysNeeds (shape : Shape) (u : ℕ) (row : List ℕ) : Type 0 where
   pub many : length row ≡ length shape.units
@@ -101,14 +96,6 @@ room_holds s u row store e room v l =
     let m = ap (λ (k : ℕ). s.width * k) (most_at s.shape s.needs.most v store.needs.most (omega (arith, many, l))) in
     omega (arith, h, is, m)
 
--- what is no unit needs nothing
-pub no_row_room : (s : Inside) (u : ℕ) → IsStore s → slice_get s.needs.rows u ≡ None → KeptHasRoom (kept_of s) u
-no_row_room s u store e v =
-    let none = no_row s.shape.units (length s.shape.units) u (sym (ap (λ (rs : List (List ℕ)). slice_get rs u) store.needs.rows) ∙ e) in
-    let z : need s.shape u v ≡ 0 = ap (λ (w : Option Node). unwrap_or (option_map (λ (m : Node). need_of m v) w) 0) none in
-    let r = store.room v in
-    omega (arith, r, z)
-
 pub slots_small : (s : Inside) (v : ℕ) → IsStore s → s.width * most s.shape v ≤ 1048576
 slots_small s v store = let t = times_few s.width (most s.shape v) 64 16384 store.narrow (most_few s.shape v store.good) in omega (arith, t)
 
@@ -149,91 +136,6 @@ no_better k n x (Some at) there full b =
       best = λ i y h e room. elim (same_or_below i n h) [
         | inl below ↦ b.best i y below e room
         | inr q ↦ absurd (full (subst (KeptHasRoom k) (ap (λ (z : Live). z.unit) (same_there k n i x y there e q)) room))
-      ];
-    }
-
-least_self : (u : ℕ) → u ≤ u
-least_self u = omega arith
-
-pub first_best : (k : Kept) (n : ℕ) (x : Live) → slice_get k.waiting n ≡ Some x → KeptHasRoom k x.unit → NoneBelow k n → IsBestBelow k (n + 1) n
-first_best k n x there room none =
-    record {
-      live = x;
-      within = omega arith;
-      there = there;
-      room = room;
-      first = λ i y h e same. none i y h e (subst (KeptHasRoom k) (sym same) room);
-      best = λ i y h e free. elim (same_or_below i n h) [
-        | inl below ↦ absurd (none i y below e free)
-        | inr q ↦ (let u = ap (λ (z : Live). z.unit) (same_there k n i x y there e q) in inr (ap (depth_at k.shape) u, omega (arith, u)))
-      ];
-    }
-
--- depths and numbers of units, in the order of opening
-abbrev Ranks : ℕ → ℕ → ℕ → ℕ → Type 0
-Ranks d u e w = (d < e) ⊎ ((d ≡ e) × (w ≤ u))
-
-abbrev Before : ℕ → ℕ → ℕ → ℕ → Type 0
-Before d u e w = (e < d) ⊎ ((d ≡ e) × (u < w))
-
-ranks_then : (dy uy db ub dx ux : ℕ) → Ranks dy uy db ub → Before dx ux db ub → Ranks dy uy dx ux
-ranks_then dy uy db ub dx ux (inl a) (inl b) = inl (omega arith)
-ranks_then dy uy db ub dx ux (inl a) (inr b) = inl (let e = b.0 in omega arith)
-ranks_then dy uy db ub dx ux (inr a) (inl b) = inl (let e = a.0 in omega arith)
-ranks_then dy uy db ub dx ux (inr a) (inr b) = inr (let e = a.0 in let f = b.0 in omega arith, let e = a.1 in let f = b.1 in omega arith)
-
-ranks_not : (dy uy db ub : ℕ) → Ranks dy uy db ub → Before dy uy db ub → ⊥
-ranks_not dy uy db ub (inl a) (inl b) = absurd (omega arith)
-ranks_not dy uy db ub (inl a) (inr b) = absurd (let e = b.0 in omega arith)
-ranks_not dy uy db ub (inr a) (inl b) = absurd (let e = a.0 in omega arith)
-ranks_not dy uy db ub (inr a) (inr b) = absurd (let e = a.1 in let f = b.1 in omega arith)
-
-not_before : (dx ux db ub : ℕ) → (Before dx ux db ub → ⊥) → Ranks dx ux db ub
-not_before dx ux db ub h = choice (nat_le db dx) (nat_le dx db) (nat_le ub ux) refl refl refl
-  where
-    choice : (a b c : Bool) → nat_le db dx ≡ a → nat_le dx db ≡ b → nat_le ub ux ≡ c → Ranks dx ux db ub
-    choice false b c p q r = inl (grind (arith, nat_tests))
-    choice true false c p q r = absurd (h (inl (grind (arith, nat_tests))))
-    choice true true true p q r =
-        let k : db ≤ dx = grind (arith, nat_tests) in
-        let l : dx ≤ db = grind (arith, nat_tests) in
-        let m : ub ≤ ux = grind (arith, nat_tests) in
-        inr (omega arith, m)
-    choice true true false p q r =
-        let k : db ≤ dx = grind (arith, nat_tests) in
-        let l : dx ≤ db = grind (arith, nat_tests) in
-        let m : ux < ub = grind (arith, nat_tests) in
-        absurd (h (inr (omega arith, m)))
-
-pub new_best : (k : Kept) (n at : ℕ) (x y : Live) → slice_get k.waiting n ≡ Some x → KeptHasRoom k x.unit → slice_get k.waiting at ≡ Some y → IsBestBelow k n at → ComesBefore k.shape x.unit y.unit → IsBestBelow k (n + 1) n
-new_best k n at x y there room other b before =
-    let same : b.live ≡ y = let o = b.there in cc in
-    let goes : Before (depth_at k.shape x.unit) x.unit (depth_at k.shape b.live.unit) b.live.unit = subst (λ (z : Live). Before (depth_at k.shape x.unit) x.unit (depth_at k.shape z.unit) z.unit) (sym same) before in
-    record {
-      live = x;
-      within = omega arith;
-      there = there;
-      room = room;
-      first = λ i z h e q. ranks_not (depth_at k.shape x.unit) x.unit (depth_at k.shape b.live.unit) b.live.unit (subst (λ (u : ℕ). Ranks (depth_at k.shape u) u (depth_at k.shape b.live.unit) b.live.unit) q (b.best i z h e (subst (KeptHasRoom k) (sym q) room))) goes;
-      best = λ i z h e free. elim (same_or_below i n h) [
-        | inl below ↦ ranks_then (depth_at k.shape z.unit) z.unit (depth_at k.shape b.live.unit) b.live.unit (depth_at k.shape x.unit) x.unit (b.best i z below e free) goes
-        | inr q ↦ (let u = ap (λ (z : Live). z.unit) (same_there k n i x z there e q) in inr (ap (depth_at k.shape) u, omega (arith, u)))
-      ];
-    }
-
-pub old_best : (k : Kept) (n at : ℕ) (x y : Live) → slice_get k.waiting n ≡ Some x → slice_get k.waiting at ≡ Some y → IsBestBelow k n at → (ComesBefore k.shape x.unit y.unit → ⊥) → IsBestBelow k (n + 1) at
-old_best k n at x y there other b not =
-    let same : b.live ≡ y = let o = b.there in cc in
-    let rank : Ranks (depth_at k.shape x.unit) x.unit (depth_at k.shape b.live.unit) b.live.unit = not_before (depth_at k.shape x.unit) x.unit (depth_at k.shape b.live.unit) b.live.unit (λ before. not (subst (λ (z : Live). Before (depth_at k.shape x.unit) x.unit (depth_at k.shape z.unit) z.unit) same before)) in
-    record {
-      live = b.live;
-      within = let w = b.within in omega arith;
-      there = b.there;
-      room = b.room;
-      first = b.first;
-      best = λ i z h e free. elim (same_or_below i n h) [
-        | inl below ↦ b.best i z below e free
-        | inr q ↦ subst (λ (u : ℕ). Ranks (depth_at k.shape u) u (depth_at k.shape b.live.unit) b.live.unit) (sym (ap (λ (z : Live). z.unit) (same_there k n i x z there e q))) rank
       ];
     }
 

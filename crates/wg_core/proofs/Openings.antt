@@ -225,11 +225,6 @@ chooses_none k r places s none =
       unentered = λ can. none.1 (can.some, room_from k r places s (first_unit k.entries) can.room);
     }
 
-none_waits : (handed v n w : ℕ) → length (unwrap_or (slice_get (by_unit handed v n []) w) []) ≡ 0
-none_waits handed v zero w = refl
-none_waits handed v (suc n) zero = refl
-none_waits handed v (suc n) (suc w) = none_waits handed (v + 1) n w
-
 -- with nothing out, an empty bag leaves the store bare
 bare_of : (k : Kept) (r : Rest) (places : ℕ) → (s : IsSound k (seen k r) places) → r.outs ≡ [] → s.bag ≡ [] → IsBare k
 bare_of k r places s none empty =

@@ -63,10 +63,6 @@ reserved_without shape v (x ∷ xs) o ys =
     let d = sum_by-cons (λ (p : Pending). need shape p.launch.unit v) x (xs ++ o ∷ ys) in
     let ih = reserved_without shape v xs o ys in omega (arith, c, d, ih)
 
-length_counts : (handed v n : ℕ) (bag : List Live) → length (counts handed v n bag) ≡ n
-length_counts handed v zero bag = refl
-length_counts handed v (suc n) bag = ap suc (length_counts handed (v + 1) n bag)
-
 -- new records are no entries
 no_entries : (handed lo end : ℕ) (xs : List Live) → handed ≤ lo → Rises lo xs end → filter (is_entry handed) xs ≡ []
 no_entries handed lo end [] h r = refl

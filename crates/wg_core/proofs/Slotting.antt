@@ -94,14 +94,6 @@ used_next handed v unit gone fresh x (n ∷ used) (suc k) u low h =
     ap (λ (m : ℕ). m ∷ used_more handed (v + 1) unit gone (fresh ++ x ∷ []) used) q
     ∙ ap (λ (rest : List ℕ). ((n - pay (v == unit) gone) + count_by (in_slot handed v) fresh) ∷ rest) (used_next handed (v + 1) unit gone fresh x used k (omega arith) low (omega arith))
 
--- the bytes of one unit more
-pub bytes_next : (shape : Shape) (i bytes all stride : ℕ) (counts : List ℕ) → i < length counts → bytes + bytes_of shape i (drop i counts) ≡ all → stride ≡ stride_at shape i → (bytes + get_or counts i 0 * stride) + bytes_of shape (i + 1) (drop (i + 1) counts) ≡ all
-bytes_next shape i bytes all stride counts h inv s =
-    let z : i + 1 ≡ suc i = omega arith in
-    let d : bytes_of shape i (drop i counts) ≡ get_or counts i 0 * stride_at shape i + bytes_of shape (i + 1) (drop (i + 1) counts) = ap (λ (ns : List ℕ). bytes_of shape i ns) (drop-cons counts i 0 h) ∙ ap (λ (k : ℕ). get_or counts i 0 * stride_at shape i + bytes_of shape (i + 1) (drop k counts)) (sym z) in
-    let m = ap (λ (k : ℕ). get_or counts i 0 * k) s in
-    omega (arith, d, m, inv)
-
 pub times_few : (a b m n : ℕ) → a ≤ m → b ≤ n → a * b ≤ m * n
 times_few a b m n p q = let x = one a m b p in let y = one b n m q in omega (arith, x, y)
   where

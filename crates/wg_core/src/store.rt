@@ -159,6 +159,7 @@ impl Store {
     fn has_room(&self, unit: u32) -> bool
         ensures { IsTrue result ↔ KeptHasRoom self.now unit }
     {
+        // What is no unit of the shape sends nothing.
         let Some(row) = self.needs.rows.get(unit as usize) else {
             return true;
         };
@@ -265,6 +266,7 @@ fn fits(needs: &[u32], used: &[u32], reserved: &[u32], most: &[u32], width: u64)
     true
 }
 
+// Adds the needs of a launch to what is reserved.
 fn reserve(reserved: &mut [u32], needs: &[u32])
     requires lengths { length needs.now ≡ length reserved.old }
     requires small { (v : ℕ) → slice_index reserved.old v + slice_index needs.now v < 2 ^ 32 }
@@ -275,6 +277,7 @@ fn reserve(reserved: &mut [u32], needs: &[u32])
     }
 }
 
+// Takes the needs of a launch from what is reserved.
 fn give_back(reserved: &mut [u32], needs: &[u32])
     requires lengths { length needs.now ≡ length reserved.old }
     requires enough { (v : ℕ) → slice_index needs.now v ≤ slice_index reserved.old v }

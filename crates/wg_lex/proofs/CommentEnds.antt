@@ -1,7 +1,6 @@
 -- Where a comment ends.
-use Rattle.std.proofs.Common.{◌≡◌, ℕ, zero, suc, ◌+◌, ◌<◌, ◌≤◌, ◌==◌, Bool, true, false, ◌&&◌, if◌then◌else◌, List, [], ◌∷◌, length, take, drop, get_or, Option, Some, None, refl, sym, ◌∙◌, ap, arith, add-one}
+use Rattle.std.proofs.Common.{◌≡◌, ℕ, zero, suc, ◌+◌, ◌<◌, ◌≤◌, ◌==◌, Bool, true, false, ◌&&◌, if◌then◌else◌, List, [], ◌∷◌, length, take, Option, Some, None, refl, ◌∙◌, ap, arith, add-one}
 use Rattle.std.specs.Option.{option_map}
-use Rattle.std.proofs.Math.Seq.{drop-cons as drop_cons}
 use Rattle.wg_tree.specs.Spelling.{closes, is_empty}
 use Rattle.wg_lex.specs.Scanning.{comment_end}
 
@@ -63,24 +62,6 @@ comment_ends s [] = none s
 comment_ends s (c ∷ cs) = either s c cs (s && c == 47) refl (comment_ends (c == 42) cs)
 
 -- ---- the loop
-
-map_map : (n : ℕ) (o : Option ℕ) → option_map (λ k. k + n) (option_map (λ k. k + 1) o) ≡ option_map (λ k. k + (n + 1)) o
-map_map n None = refl
-map_map n (Some k) = ap Some (omega arith)
-
-pub end_here : (s : Bool) (text : List ℕ) (i : ℕ) → i < length text → (s && get_or text i 0 == 47) ≡ true → option_map (λ k. k + i) (comment_end s (drop i text)) ≡ Some (i + 1)
-end_here s text i h e = rw (drop_cons text i 0 h, e) (ap Some (omega arith))
-
-pub end_later : (s : Bool) (text : List ℕ) (i : ℕ) → i < length text → (s && get_or text i 0 == 47) ≡ false
-    → option_map (λ k. k + i) (comment_end s (drop i text)) ≡ option_map (λ k. k + (i + 1)) (comment_end (get_or text i 0 == 42) (drop (i + 1) text))
-end_later s text i h e = rw (drop_cons text i 0 h, e) (map_map i (comment_end (get_or text i 0 == 42) (drop (suc i) text)) ∙ ap (λ z. option_map (λ k. k + (i + 1)) (comment_end (get_or text i 0 == 42) (drop z text))) (sym (add-one i)))
-
-drop_all : (bs : List ℕ) → drop (length bs) bs ≡ []
-drop_all [] = refl
-drop_all (c ∷ cs) = drop_all cs
-
-pub end_none : (s : Bool) (text : List ℕ) → option_map (λ k. k + length text) (comment_end s (drop (length text) text)) ≡ None
-end_none s text = rw (drop_all text) refl
 
 pub end_begin : (text : List ℕ) → option_map (λ k. k + 0) (comment_end false text) ≡ comment_end false text
 end_begin text = same (comment_end false text)

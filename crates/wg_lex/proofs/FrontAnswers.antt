@@ -11,7 +11,7 @@ use Rattle.wg_lex.specs.declared.front.Front.TheVariants.{Skipped, Token, WideLi
 use Rattle.wg_lex.specs.Numerals.{IsNumeral}
 use Rattle.wg_lex.specs.Scanning.{BeginsNoOther, IsLongestMark, IsNoMark, comment_end}
 use Rattle.wg_lex.specs.Fronts.{IsFront}
-use Rattle.wg_lex.proofs.FrontRules.{not_wide, not_wide_number, wide_by_letter, wide_by_value, not_open, opens_comment}
+use Rattle.wg_lex.proofs.FrontRules.{not_wide, not_wide_number, wide_by_letter, not_open, opens_comment}
 use Rattle.wg_lex.proofs.Longest.{blank_is, name_is, text_is, open_text_is, line_comment_is, block_comment_is, open_comment_is, mark_is, no_piece}
 
 letter_is_no_slash : (b : ℕ) (v : Bool) → is_letter b ≡ true → (b == 47 && v) ≡ false
@@ -39,10 +39,6 @@ numeral_some text None size u h = (h.wide.0, h.wide.2)
 pub front_of_long : (text : List ℕ) (numeral : Numeral) → IsNumeral text numeral → is_among (codes "lL") (get_or text numeral.size 0) ≡ true → IsFront text WideLiteral
 front_of_long text numeral h long = let s = numeral_some text numeral.value numeral.size numeral.unsigned h in wide_by_letter text s.0 numeral.size numeral.unsigned s.1 long
 
-pub front_of_wide : (text : List ℕ) (value : Option ℕ) (size : ℕ) (u : Bool) → value ≡ None → IsNumeral text (record { value = value; unsigned = u; size = size }) → IsFront text WideLiteral
-front_of_wide text (Some v) size u e h = absurd (cc)
-front_of_wide text None size u e h = wide_by_value text h.wide.0 size u h.wide.2 h.wide.1
-
 pub value_of_numeral : (text : List ℕ) (value : Option ℕ) (v size : ℕ) (u : Bool) → value ≡ Some v → IsNumeral text (record { value = value; unsigned = u; size = size }) → IsLongest text (record { matter = token (Number v u); size = size })
 value_of_numeral text (Some w) v size u e h = let same : w ≡ v = cc in subst (λ z. IsLongest text (record { matter = token (Number z u); size = size })) same h.value
 value_of_numeral text None v size u e h = absurd (cc)
@@ -68,11 +64,6 @@ front_of_open_text text rest n some first after run quote = (some, open_text_is 
 -- two bytes, from their tests
 both : (b c x y : ℕ) → (b == x && c == y) ≡ true → (b ≡ x) × (c ≡ y)
 both b c x y h = (grind (arith, nat_tests), grind (arith, nat_tests))
-
-pub two_within : (text : List ℕ) (y : ℕ) → (get_or text 0 0 == 47 && get_or text 1 0 == y) ≡ true → 0 < y → 2 ≤ length text
-two_within [] y h p = let b = both 0 0 47 y h in absurd (omega arith)
-two_within (b ∷ []) y h p = let e = both b 0 47 y h in absurd (omega arith)
-two_within (b ∷ c ∷ cs) y h p = omega arith
 
 pub front_of_line_comment : (text rest : List ℕ) (n : ℕ) → (get_or text 0 0 == 47 && get_or text 1 0 == 47) ≡ true → rest ≡ drop 2 text → n ≡ prefix_len (λ b. not (is_line_feed b)) rest
     → IsFront text (Skipped (n + 2))
@@ -109,6 +100,3 @@ front_of_blank text some h = (inl (blank_is text some h), not_open text (blank_i
   where
     blank_is_no_slash : (b : ℕ) (v : Bool) → is_blank b ≡ true → (b == 47 && v) ≡ false
     blank_is_no_slash b v h = let e : (b == 47) ≡ false = grind (arith, nat_tests) in rw e refl
-
-pub is_no_quote : (b : ℕ) → b ≢ 34 → (b == 34) ≡ false
-is_no_quote b h = grind (arith, nat_tests)

@@ -1,0 +1,4 @@
+mod Bounds
+mod Gathering
+mod Rows
+mod Built

@@ -1,5 +1,5 @@
 -- A reader that reads exactly what is spelled.
-use Rattle.std.proofs.Common.{◌++◌, ◌||◌, arith, Bool, suc, [], ◌∷◌, length, refl, ◌∙◌, inl, inr, subst, ap, sym, if◌then◌else◌, ◌≡◌, ℕ, true, false, List}
+use Rattle.std.proofs.Common.{◌++◌, Bool, suc, [], ◌∷◌, length, refl, ◌∙◌, inl, inr, subst, ap, sym, if◌then◌else◌, ◌≡◌, ℕ, true, false, List}
 use Rattle.wg_grammar.specs.Spans.{Span, Seq, None_of, Never, ◌or◌}
 use Rattle.wg_grammar.specs.Reading.{Wrong, Deep, Reader, and_then, ◌>>=◌, pure, sees, begins, look, by_next, too_deep}
 use Rattle.wg_grammar.specs.Depths.{plain}
@@ -7,19 +7,17 @@ use Rattle.wg_grammar.specs.Takes.{Takes, matched}
 use Rattle.wg_grammar.specs.Parts.{Part, of, apart, covered, Edges, Readers, Rules, nullable, first, stops, reads, spells, decides}
 use Rattle.wg_grammar.proofs.Kept.{Persists, Eats, persists_deep, eats_deep, persists_next, persists_bind, persists_pure, eats_next, eats_first, falls_pure}
 use Rattle.wg_grammar.proofs.Full.{Full, full_for, full_next, full_bind, full_pure}
-use Rattle.wg_grammar.proofs.Sets.{covered_sees, covered_true, both_true, apart_other, sees_left, sees_right, sees_none, sees-append}
-use Rattle.wg_grammar.proofs.Look.{persists_look, eats_look, full_look, takes_then}
+use Rattle.wg_grammar.proofs.Sets.{covered_sees, covered_true, apart_other, sees_left, sees_right, sees_none}
+use Rattle.wg_grammar.proofs.Look.{persists_look, eats_look, full_look}
 use Rattle.wg_grammar.proofs.Inverse.{begins_not}
 use Rattle.wg_grammar.proofs.PartKept.{Grows, part_persists, part_eats, part_refuses}
 use Rattle.wg_grammar.proofs.PartFull.{part_full, part_begins}
-use Rattle.wg_grammar.proofs.PartBites.{part_bites}
 
 -- starts: the classes with which it begins; ends: those that must not follow
 pub record Exact {T D X : Type 0} (class : T → ℕ) (starts ends : List ℕ) (p : Reader T X) (P : X → Span (T × D)) : Type 0 where
   pub self : Persists p p
   pub eats : Eats p
   pub refuses : (ts : List T) → sees (of class starts) ts ≡ false → p ts ≡ Wrong ts
-  pub bites : (ts : List T) → sees (of class starts) ts ≡ true → Takes 1 ts (p ts)
   pub begins : (x : X) (i r : List (T × D)) → P x i r → sees (of class starts) (plain i) ≡ true
   pub full : Full p P (λ _ ts. sees (of class ends) ts ≡ false)
 
@@ -33,7 +31,6 @@ module _ {T D N : Type 0} {Of : N → Type 0} (class : T → ℕ) (edges : Edges
     self = part_persists class edges example E E grows_self g d;
     eats = part_eats class edges example E E grows_self g d n;
     refuses = part_refuses class edges example E (λ n. (parts n).refuses) g d n;
-    bites = part_bites class edges example E E grows_self (λ n. (parts n).refuses) (λ n. (parts n).bites) g d;
     begins = part_begins class edges example R (λ n. (parts n).begins) g d n;
     full = part_full class edges example R (λ n. (parts n).begins) E room grows_self (λ n. (parts n).full) g d;
   }
@@ -43,7 +40,6 @@ exact_for class starts ends more c h = record {
   self = h.self;
   eats = h.eats;
   refuses = h.refuses;
-  bites = h.bites;
   begins = h.begins;
   full = full_for (λ x ts k. covered_sees class ends more ts c k) h.full;
 }
@@ -54,7 +50,6 @@ exact_never {T = T} {X = X} class starts ends = record {
   self = persists_deep (of class starts) refuses;
   eats = eats_deep (of class starts);
   refuses = refuses;
-  bites = λ ts e. subst (λ z. Takes {X = X} 1 ts (if z then Deep ts else Wrong ts)) (sym e) tt;
   begins = λ x i r h. absurd h;
   full = record { reads = λ x i r h k. absurd h };
 }
@@ -74,18 +69,9 @@ module _ {T D X : Type 0} (class : T → ℕ) (set s1 s2 ends : List ℕ) (tests
     self = persists_look (of class set ∷ tests) a.self b.self taken other;
     eats = eats_look (of class set ∷ tests) a.eats b.eats;
     refuses = λ ts e. ap (λ z. if z then p ts else q ts) (begins_not (of class set) tests ts (covered_sees class set s1 ts d (covered_sees class s1 s2 ts c e))) ∙ b.refuses ts e;
-    bites = λ ts e. biting ts e (begins (of class set ∷ tests) ts) refl;
     begins = λ x i r h. elim h [ inl u ↦ covered_true class s1 s2 (plain i) c (a.begins x i r u) | inr u ↦ b.begins x i r u ];
     full = full_look (of class set ∷ tests) a.full b.full first second;
   }
-    where
-      seen : (ts : List T) → begins (of class set ∷ tests) ts ≡ true → sees (of class set) ts ≡ true
-      seen [] e = absurd (cc)
-      seen (t ∷ ts) e = (both_true (of class set t) (begins tests ts) e).0
-
-      biting : (ts : List T) → sees (of class s2) ts ≡ true → (v : Bool) → begins (of class set ∷ tests) ts ≡ v → Takes 1 ts (if v then p ts else q ts)
-      biting ts e true g = a.bites ts (covered_true class set s1 ts d (seen ts g))
-      biting ts e false g = b.bites ts e
 
 -- the one or the other, by the next token
 pub exact_next : {T D X : Type 0} (class : T → ℕ) (s1 s2 ends : List ℕ) {p q : Reader T X} {P Q : X → Span (T × D)} → apart s1 s2 ≡ true → Exact class s1 ends p P → Exact class s2 ends q Q
@@ -94,14 +80,9 @@ exact_next {T = T} class s1 s2 ends {p = p} {q = q} {P = P} {Q = Q} c a b = reco
   self = persists_next (of class s1) a.self b.self;
   eats = eats_next (of class s1) a.eats b.eats;
   refuses = λ ts e. let n = sees_none class s1 s2 ts e in ap (λ z. if z then p ts else q ts) n.0 ∙ b.refuses ts n.1;
-  bites = λ ts e. biting ts (sees (of class s1) ts) refl (sym (sees-append class s1 s2 ts) ∙ e);
   begins = λ x i r h. elim h [ inl u ↦ sees_left class s1 s2 (plain i) (a.begins x i r u) | inr u ↦ sees_right class s1 s2 (plain i) (b.begins x i r u) ];
   full = full_next (of class s1) a.full b.full a.begins (λ x i r h. apart_other class s1 s2 (plain i) c (b.begins x i r h));
 }
-  where
-    biting : (ts : List T) (v : Bool) → sees (of class s1) ts ≡ v → (v || sees (of class s2) ts) ≡ true → Takes 1 ts (if v then p ts else q ts)
-    biting ts true g e = a.bites ts g
-    biting ts false g e = b.bites ts e
 
 -- the same with another value
 pub exact_map : {T D X Y : Type 0} (class : T → ℕ) (starts ends : List ℕ) {p : Reader T X} {P : X → Span (T × D)} (f : X → Y) → Exact class starts ends p P → Exact class starts ends (p >>= λ x. pure (f x)) (Seq P (λ x. None_of (f x)))
@@ -109,7 +90,6 @@ exact_map class starts ends {p = p} f h = record {
   self = persists_bind h.self (λ x. persists_pure (f x));
   eats = eats_first h.eats (λ x. falls_pure (f x));
   refuses = λ ts e. ap (λ z. and_then z (λ x. pure (f x))) (h.refuses ts e);
-  bites = λ ts e. takes_then 1 ts (p ts) (λ x. pure (f x)) (h.bites ts e) (λ x m. omega arith);
   begins = λ y i r k. h.begins k.0 i k.1 k.2;
   full = full_bind h.full (λ x. full_pure (f x)) (λ x y m r q k. subst (λ z. sees (of class ends) (plain z) ≡ false) (sym q.1) k);
 }

@@ -2,7 +2,7 @@
 use Rattle.std.proofs.Common.{◌≡◌, ℕ, ◌&&◌, Bool, true, false, List, [], ◌∷◌, refl, sym, ◌∙◌, ap, subst}
 use Rattle.wg_grammar.specs.Reading.{sees, begins}
 use Rattle.wg_grammar.specs.Depths.{plain}
-use Rattle.wg_grammar.specs.Parts.{Part, give, token, apply, of, Rules, spell_token, spells, ◌<*◌, ◌*>◌}
+use Rattle.wg_grammar.specs.Parts.{Part, give, token, apply, of, Rules, spell_token, spells, ◌<*◌}
 
 -- it begins with a token that passes the test, and goes on so
 abbrev pub Leads : {T D : Type 0} → (T → Bool) → List (T × D) → List (T × D) → Type 0
@@ -20,9 +20,6 @@ module _ {T D N : Type 0} {Of : N → Type 0} (class : T → ℕ) (R : Rules T D
 
   pub inv_left : {X Y : Type 0} (p : Part T N Of X) (q : Part T N Of Y) (x : X) (i r : List (T × D)) → spells class R (p <* q) x i r → (y : Y) × (m : List (T × D)) × spells class R p x i m × spells class R q y m r
   inv_left p q x i r h = let k = inv_two (λ x y. x) p q x i r h in (k.1, k.2, subst (λ z. spells class R p z i k.2) (sym k.5) k.3, k.4)
-
-  pub inv_right : {X Y : Type 0} (p : Part T N Of X) (q : Part T N Of Y) (y : Y) (i r : List (T × D)) → spells class R (p *> q) y i r → (x : X) × (m : List (T × D)) × spells class R p x i m × spells class R q y m r
-  inv_right p q y i r h = let k = inv_two (λ x y. y) p q y i r h in (k.0, k.2, k.3, subst (λ z. spells class R q z k.2 r) (sym k.5) k.4)
 
 inv_token_at : {T D X : Type 0} (inner room : Bool) (here below : D) (test : T → Bool) (value : T → X) (x : X) (i r : List (T × D)) → spell_token inner room here below test value x i r → Leads test i r
 inv_token_at false room here below test value x i r h = (h.0, here, h.1, h.3)

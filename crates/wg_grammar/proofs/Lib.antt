@@ -1,4 +1,5 @@
 pub mod Sets
+pub mod Splits
 pub mod Kept
 pub mod Fine
 pub mod Full
@@ -6,6 +7,8 @@ pub mod PartKept
 pub mod PartFull
 pub mod PartFine
 pub mod Look
-pub mod PartBites
+pub mod Far
+pub mod Limits
+pub mod PartLimits
 pub mod Inverse
 pub mod Exact

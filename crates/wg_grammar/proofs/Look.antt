@@ -1,7 +1,7 @@
 -- Readers that look at several tokens.
 use Rattle.std.proofs.Common.{◌≡◌, ℕ, zero, suc, ◌+◌, ◌<◌, ◌≤◌, Bool, true, false, ◌&&◌, List, [], ◌∷◌, ◌++◌, length, refl, sym, ◌∙◌, ap, subst, length-append, arith, if◌then◌else◌, inl, inr}
 use Rattle.wg_grammar.specs.Spans.{Span, ◌or◌}
-use Rattle.wg_grammar.specs.Reading.{Outcome, Got, Wrong, Deep, Reader, and_then, begins, look}
+use Rattle.wg_grammar.specs.Reading.{Outcome, Got, Wrong, Deep, Reader, begins, look}
 use Rattle.wg_grammar.specs.Depths.{plain}
 use Rattle.wg_grammar.specs.Takes.{Takes, matched}
 use Rattle.wg_grammar.proofs.Kept.{SameHead, Kept, Persists, Eats}
@@ -15,29 +15,8 @@ takes_none {T = T} {X = X} {p = p} {q = q} h ts = go (p ts) (h.at ts)
     go (Wrong b) k = omega (arith, ap length k.1, length-append k.0 b)
     go (Deep b) k = tt
 
-pub takes_then : {T X Y : Type 0} (k : ℕ) (ts : List T) (o : Outcome T X) (f : X → Reader T Y) → Takes k ts o → ((x : X) (m : List T) → Takes 0 m (f x m)) → Takes k ts (and_then o f)
-takes_then {T = T} {Y = Y} k ts (Got x m) f h g = go (f x m) (g x m)
-  where
-    go : (o : Outcome T Y) → Takes 0 m o → Takes k ts o
-    go (Got y b) l = omega arith
-    go (Wrong b) l = omega arith
-    go (Deep b) l = tt
-takes_then k ts (Wrong b) f h g = h
-takes_then k ts (Deep b) f h g = tt
-
--- more where something was left before
-pub takes_more : {T X : Type 0} (k : ℕ) (ts us : List T) (o : Outcome T X) → k + length us ≤ length ts → Takes 0 us o → Takes k ts o
-takes_more k ts us (Got x b) l h = omega arith
-takes_more k ts us (Wrong b) l h = omega arith
-takes_more k ts us (Deep b) l h = tt
-
-pub takes_less : {T X : Type 0} (j k : ℕ) (ts : List T) (o : Outcome T X) → j ≤ k → Takes k ts o → Takes j ts o
-takes_less j k ts (Got x b) l h = omega arith
-takes_less j k ts (Wrong b) l h = omega arith
-takes_less j k ts (Deep b) l h = tt
-
 module _ {T : Type 0} where
-  same_failure : (tests : List (T → Bool)) (front b b' : List T) → begins tests (front ++ b) ≡ false → matched tests (front ++ b) ≤ length front → SameHead b b' → begins tests (front ++ b') ≡ false
+  pub same_failure : (tests : List (T → Bool)) (front b b' : List T) → begins tests (front ++ b) ≡ false → matched tests (front ++ b) ≤ length front → SameHead b b' → begins tests (front ++ b') ≡ false
   same_failure [] front b b' e l s = absurd (cc)
   same_failure (f ∷ fs) [] [] [] e l s = refl
   same_failure (f ∷ fs) [] [] (u ∷ b') e l s = absurd (cc)
@@ -54,7 +33,7 @@ module _ {T : Type 0} where
       go true a c h = h a (omega arith)
       go false a c h = refl
 
-  same_success : (tests : List (T → Bool)) (front b b' : List T) → begins tests (front ++ b) ≡ true → length tests ≤ suc (length front) → SameHead b b' → begins tests (front ++ b') ≡ true
+  pub same_success : (tests : List (T → Bool)) (front b b' : List T) → begins tests (front ++ b) ≡ true → length tests ≤ suc (length front) → SameHead b b' → begins tests (front ++ b') ≡ true
   same_success [] front b b' e l s = refl
   same_success (f ∷ fs) [] [] b' e l s = absurd (cc)
   same_success (f ∷ []) [] (t ∷ b) [] e l s = absurd (cc)

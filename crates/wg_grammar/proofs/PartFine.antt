@@ -7,7 +7,7 @@ use Rattle.wg_grammar.proofs.Sets.{both_true, not_true, member-append}
 use Rattle.wg_grammar.proofs.Fine as f
 use Rattle.wg_grammar.proofs.Fine.{Words, Opens, then_opens, opens_then}
 
-opens_as : {A X : Type 0} (P Q : X → Span A) (a : List A) → ((x : X) (i r : List A) → P x i r → Q x i r) → Opens P a → Opens Q a
+pub opens_as : {A X : Type 0} (P Q : X → Span A) (a : List A) → ((x : X) (i r : List A) → P x i r → Q x i r) → Opens P a → Opens Q a
 opens_as P Q a h o = (o.0, o.1, λ s. h o.1 _ s (o.2 s))
 
 leaf_opens : {T D X : Type 0} (test : T → Bool) (value : T → X) (d : D) (t : T) → test t ≡ true → Opens (Leaf test value d) []
@@ -16,7 +16,7 @@ leaf_opens test value d t e = ((t, d) ∷ [], value t, λ s. (t, e, refl, refl))
 leaf_starts : {T D X : Type 0} (test : T → Bool) (value : T → X) (d : D) (t : T) → test t ≡ true → Opens (Leaf test value d) ((t, d) ∷ [])
 leaf_starts test value d t e = ([], value t, λ s. (t, e, refl, refl))
 
-or_starts : {A : Type 0} (c : ℕ) (cs ds : List ℕ) → member c (cs ++ ds) ≡ true → (member c cs ≡ true → A) → (member c ds ≡ true → A) → A
+pub or_starts : {A : Type 0} (c : ℕ) (cs ds : List ℕ) → member c (cs ++ ds) ≡ true → (member c cs ≡ true → A) → (member c ds ≡ true → A) → A
 or_starts {A = A} c cs ds m h k = go (member c cs) refl (sym (member-append c cs ds) ∙ m)
   where
     go : (v : Bool) → member c cs ≡ v → (v || member c ds) ≡ true → A

@@ -40,7 +40,7 @@ module _ {T D N : Type 0} {Of : N → Type 0} (class : T → ℕ) (edges : Edges
     begun_right false w cs ds i r n (inl a) = inl a
     begun_right false w cs ds i r n (inr s) = inr (sees_right class cs ds (plain i) s)
 
-    begun_some : (v : Bool) (cs : List ℕ) (i r : List (T × D)) → v ≡ false → Begun (of class cs) v i r → sees (of class cs) (plain i) ≡ true
+    pub begun_some : (v : Bool) (cs : List ℕ) (i r : List (T × D)) → v ≡ false → Begun (of class cs) v i r → sees (of class cs) (plain i) ≡ true
     begun_some v cs i r n (inl a) = absurd (let e = a.0 in cc)
     begun_some v cs i r n (inr s) = s
 
@@ -70,13 +70,13 @@ module _ {T D N : Type 0} {Of : N → Type 0} (class : T → ℕ) (edges : Edges
     part_begins g d n x i r h = begun_some (nullable g) (first edges g) i r n (begun g d x i r h)
 
     -- the first part stops before the second
-    between : (v : Bool) (ps cs ds : List ℕ) (m r : List (T × D)) → apart ps ds ≡ true → Begun (of class ds) v m r → sees (of class (cs ++ (if v then ps else []))) (plain r) ≡ false → sees (of class ps) (plain m) ≡ false
+    pub between : (v : Bool) (ps cs ds : List ℕ) (m r : List (T × D)) → apart ps ds ≡ true → Begun (of class ds) v m r → sees (of class (cs ++ (if v then ps else []))) (plain r) ≡ false → sees (of class ps) (plain m) ≡ false
     between v ps cs ds m r a (inr s) f = apart_other class ps ds (plain m) a s
     between true ps cs ds m r a (inl e) f = ap (λ z. sees (of class ps) (plain z)) e.1 ∙ (sees_none class cs ps (plain r) f).1
     between false ps cs ds m r a (inl e) f = absurd (let q = e.0 in cc)
 
     -- the second alternative
-    past : (v : Bool) (cs ds ps qs : List ℕ) (i r : List (T × D)) → apart cs ds ≡ true → Begun (of class ds) v i r → sees (of class (ps ++ (qs ++ (if v then cs else [])))) (plain r) ≡ false → sees (of class cs) (plain i) ≡ false
+    pub past : (v : Bool) (cs ds ps qs : List ℕ) (i r : List (T × D)) → apart cs ds ≡ true → Begun (of class ds) v i r → sees (of class (ps ++ (qs ++ (if v then cs else [])))) (plain r) ≡ false → sees (of class cs) (plain i) ≡ false
     past v cs ds ps qs i r a (inr s) f = apart_other class cs ds (plain i) a s
     past true cs ds ps qs i r a (inl e) f = ap (λ z. sees (of class cs) (plain z)) e.1 ∙ (sees_none class qs cs (plain r) (sees_none class ps (qs ++ cs) (plain r) f).1).1
     past false cs ds ps qs i r a (inl e) f = absurd (let q = e.0 in cc)

@@ -1,25 +1,29 @@
 -- An expression is read exactly, whatever the room.
-use Rattle.std.proofs.Common.{◌≡◌, ℕ, zero, suc, ◌≤◌, true, false, List, [], ◌∷◌, refl, sym, ◌∙◌, ap, subst, if◌then◌else◌, inl, inr, arith, None}
+use Rattle.std.proofs.Common.{◌≡◌, ℕ, zero, suc, ◌≤◌, true, false, List, [], ◌∷◌, refl, sym, ◌∙◌, ap, subst, if◌then◌else◌, inl, inr, arith, None, Option}
 use Rattle.std.proofs.lemmas.List.{append-nil}
 use Rattle.wg_tree.specs.declared.token.Token.{Token}
 use Rattle.wg_tree.specs.declared.expr.Expr.{Expr}
 use Rattle.wg_tree.specs.declared.expr.Expr.TheVariants as e
+use Rattle.wg_tree.specs.declared.expr.Link.{Link}
 use Rattle.wg_grammar.specs.Spans.{Span}
 use Rattle.wg_grammar.specs.Reading.{Got, Wrong, Deep, Reader, and_then, ◌>>=◌, pure, sees, look}
 use Rattle.wg_grammar.specs.Depths.{plain}
-use Rattle.wg_grammar.specs.Parts.{list, member, of, covered, reads, spells, first, stops, decides, sub, ◌<$>◌, ◌<*>◌, ◌<*◌, ◌*>◌}
+use Rattle.wg_grammar.specs.Parts.{Part, Readers, give, apply, list, member, of, covered, reads, spells, first, stops, decides, sub, ◌<$>◌, ◌<*>◌, ◌<*◌, ◌*>◌}
 use Rattle.wg_grammar.proofs.Sets.{both_true, apart_sees, covered_true}
 use Rattle.wg_grammar.proofs.Kept.{Persists, Eats, persists_deep, eats_deep}
 use Rattle.wg_grammar.proofs.PartKept.{Grows, part_persists}
-use Rattle.wg_grammar.proofs.Exact.{Exact, exact_part, exact_for, exact_never}
+use Rattle.wg_grammar.proofs.Far.{Far, far_give, far_apply}
+use Rattle.wg_grammar.proofs.Exact.{Exact, grows_self, exact_part, exact_for, exact_never}
 use Rattle.wg_grammar.proofs.Inverse.{begins_not}
 use Rattle.wg_tree.specs.Symbols.{mark_code, NAME, ZERO, class}
 use Rattle.wg_tree.specs.Depths.{Depth, deeper}
-use Rattle.wg_tree.specs.GrammarExpr.{Kind, full, constant, argument, Nested, whole, operand, nested, Inner, value_types, by_code, classes, operators, one_of, optional, mark, cast, zeros, link_of, plain_operand, named, called, with_forms, unary, level, links, chain, lower, Sides, left, right, sides, choice, chosen, expr, inner_at, expr_at}
+use Rattle.wg_tree.specs.GrammarExpr.{Kind, full, constant, argument, Nested, whole, operand, nested, Inner, value_types, by_code, classes, operators, one_of, optional, mark, cast, zeros, link_of, plain_operand, named, called, with_forms, unary, level, links, chain, Below, lower, Lower, Sides, Side, left, right, sides, choice, chosen, expr, inner_at, expr_at}
 use Rattle.wg_tree.specs.ReadsExpr.{Inside, starts, operand_stops, level_stops, expr_stops, nested_edges, level_edges, side_edges, zeros_tests, read_part, read_unary, read_level, read_expr, inside_at, expr_read_at}
 use Rattle.wg_tree.proofs.Examples.{example}
 use Rattle.wg_tree.proofs.ExprDecides.{plain_decides, plain_covered, levels_decide, all_levels, choice_decides, choice_covered}
+use Rattle.wg_tree.specs.GrammarStmt.{type_classes}
 use Rattle.wg_tree.proofs.ExprPaths.{type_wrong}
+use Rattle.wg_tree.proofs.ExprFar.{unary_far}
 use Rattle.wg_tree.proofs.ExprUnary.{Tells, exact_unary_full, unary_full_grows}
 
 exact_from : {X : Type 0} (s s' ends : List ℕ) {p : Reader Token X} {P : X → Span (Token × Depth)} → s ≡ s' → Exact class s ends p P → Exact class s' ends p P
@@ -45,6 +49,56 @@ module _ (kind : Kind) (I : Inside) (R : Inner) (room : I.room ≡ R.room) (part
     exact_expr = exact_for class (starts kind) (stops (side_edges kind) choice) (expr_stops kind) (choice_covered kind)
         (exact_from (first (side_edges kind) choice) (starts kind) (stops (side_edges kind) choice) (append-nil (starts kind))
         (exact_part class (side_edges kind) example (record { room = I.room; read = sides (read_level kind I 10) (I.read whole) }) (record { room = R.room; here = R.here; below = R.below; rule = sides (level kind R 10) (R.rule whole) }) room both_sides choice (choice_decides kind) refl))
+
+-- an expression that begins with a name or a type takes it
+module _ (I : Inside) (R : Inner) (room : I.room ≡ R.room) (parts : (n : Nested) → Exact class (starts full) ((nested_edges full).stops n) (I.read n) (R.rule n)) (operands : Exact class (starts full) (operand_stops full) (read_unary full I) (unary full R)) where
+  self : Grows I I
+  self = grows_self class (nested_edges full) example I R room parts
+
+  abbrev one : ℕ → Readers Token Below Lower
+  one j = record { room = I.room; read = λ k. read_level full I j }
+
+  abbrev first_link : Part Token Below Lower (List Link → Expr)
+  first_link = apply (give chain) (sub lower)
+
+  abbrev more_links : ℕ → Part Token Below Lower (List Link)
+  more_links j = list (link_of (suc j) <$> one_of (classes (operators (suc j))) <*> sub lower)
+
+  level_far : (j : ℕ) → levels_decide full j ≡ true → (n : Token) (ts : List Token) → of class type_classes n ≡ true → Far 1 (n ∷ ts) (read_level full I j (n ∷ ts))
+  level_far zero g n ts e = unary_far I self n ts e
+  level_far (suc j) g n ts e =
+      let a = both_true (decides class (level_edges full j) example (links (suc j))) _ g in
+      let b = both_true (covered (stops (level_edges full j) (links (suc j))) (level_stops full (suc j))) (levels_decide full j) a.1 in
+      let r = both_true (decides class (level_edges full j) example (more_links j)) _ (both_true (decides class (level_edges full j) example first_link) _ a.0).1 in
+      let below = exact_level full I R room parts operands j b.1 in
+      far_apply class (level_edges full j) example (one j) (record { room = λ e. e; kept = λ k. below.self; eats = λ k. below.eats }) first_link (more_links j) 1 (n ∷ ts) r.0
+      (far_give class (level_edges full j) example (one j) (record { room = λ e. e; kept = λ k. below.self; eats = λ k. below.eats }) chain (sub lower) 1 (n ∷ ts) (level_far j b.1 n ts e))
+
+  abbrev both : Readers Token Sides Side
+  both = record { room = I.room; read = sides (read_level full I 10) (I.read whole) }
+
+  abbrev chosen_first : Part Token Sides Side (Option (Expr × Expr) → Expr)
+  chosen_first = apply (give chosen) (sub left)
+
+  abbrev chosen_rest : Part Token Sides Side (Option (Expr × Expr))
+  chosen_rest = optional ((λ x y. (x, y)) <$> (mark "?" *> sub right) <* mark ":" <*> sub right)
+
+  both_self : Grows both both
+  both_self = record { room = λ e. e; kept = kept; eats = eats }
+    where
+      kept : (k : Sides) → Persists (both.read k) (both.read k)
+      kept left = (exact_level full I R room parts operands 10 (all_levels full)).self
+      kept right = (parts whole).self
+
+      eats : (k : Sides) → Eats (both.read k)
+      eats left = (exact_level full I R room parts operands 10 (all_levels full)).eats
+      eats right = (parts whole).eats
+
+  expr_far : (n : Token) (ts : List Token) → of class type_classes n ≡ true → Far 1 (n ∷ ts) (read_expr full I (n ∷ ts))
+  expr_far n ts e =
+      let r = both_true (decides class (side_edges full) example chosen_rest) _ (both_true (decides class (side_edges full) example chosen_first) _ (choice_decides full)).1 in
+      far_apply class (side_edges full) example both both_self chosen_first chosen_rest 1 (n ∷ ts) r.0
+      (far_give class (side_edges full) example both both_self chosen (sub left) 1 (n ∷ ts) (level_far 10 (all_levels full) n ts e))
 
 -- with more room, an expression is read the same
 module _ (kind : Kind) (I J : Inside) (more : Grows I J) (operands : Persists (read_unary kind I) (read_unary kind J)) (levels : (j : ℕ) → levels_decide kind j ≡ true → Eats (read_level kind I j)) where
@@ -130,7 +184,8 @@ exact_expr_at kind room k d = exact_expr kind (inside_at kind room) (inner_at ki
 
 no_room_tells : Tells (inside_at full 0)
 no_room_tells = record {
-  name = λ n u ts c d. inr (n ∷ u ∷ ts, ap (λ z. if member z (starts full) then Deep (n ∷ u ∷ ts) else Wrong (n ∷ u ∷ ts)) c);
+  first = λ r. absurd (cc);
+  name = λ n u ts c d. inr (refl, n ∷ u ∷ ts, ap (λ z. if member z (starts full) then Deep (n ∷ u ∷ ts) else Wrong (n ∷ u ∷ ts)) c);
   type = λ v u ts w d. inr (v ∷ u ∷ ts, ap (λ z. if z then Deep (v ∷ u ∷ ts) else Wrong (v ∷ u ∷ ts)) (covered_true class (classes (by_code value_types)) (starts full) (v ∷ u ∷ ts) refl w));
 }
 
@@ -147,6 +202,7 @@ named_read room k n u ts c d =
 
 room_tells : (room : ℕ) → Known full room → Tells (inside_at full (suc room))
 room_tells room k = record {
+  first = λ r n ts e. expr_far (inside_at full room) (inner_at full room nowhere) (same_room full room nowhere) (k.parts nowhere) (exact_unary full room k nowhere) n ts e;
   name = λ n u ts c d. inl (named_read room k n u ts c (ap (λ z. member z (expr_stops full)) d));
   type = λ v u ts w d. inl (expr_wrong full (inside_at full room) (v ∷ u ∷ ts) (u ∷ ts) (unary_type_wrong (inside_at full room) v u ts w (ap (λ z. member z (mark_code "(" ∷ [])) d)));
 }
@@ -163,9 +219,11 @@ known kind (suc room) = let k = known kind room in
 
 -- ---- more room
 
+pub exact_level_at : (kind : Kind) (room : ℕ) (d : Depth) (j : ℕ) → levels_decide kind j ≡ true → Exact class (starts kind) (level_stops kind j) (read_level kind (inside_at kind room) j) (level kind (inner_at kind room d) j)
+exact_level_at kind room d j g = let k = known kind room in exact_level kind (inside_at kind room) (inner_at kind room d) (same_room kind room d) (k.parts d) (exact_unary kind room k d) j g
+
 eats_levels : (kind : Kind) (room : ℕ) (j : ℕ) → levels_decide kind j ≡ true → Eats (read_level kind (inside_at kind room) j)
-eats_levels kind room j d = let k = known kind room in
-    (exact_level kind (inside_at kind room) (inner_at kind room nowhere) (same_room kind room nowhere) (k.parts nowhere) (exact_unary kind room k nowhere) j d).eats
+eats_levels kind room j d = (exact_level_at kind room nowhere j d).eats
 
 unary_more : (kind : Kind) (n m : ℕ) → Grows (inside_at kind n) (inside_at kind m) → Persists (read_unary kind (inside_at kind n)) (read_unary kind (inside_at kind m))
 unary_more full n m h = let k = known full n in unary_full_grows (inside_at full n) (inner_at full n nowhere) (same_room full n nowhere) (k.parts nowhere) (k.tells refl) (inside_at full m) h
@@ -184,3 +242,8 @@ inside_more kind (suc n) (suc m) l = let h = inside_more kind n m (omega arith) 
 
 pub expr_more : (kind : Kind) (n m : ℕ) → n ≤ m → Persists (expr_read_at kind n) (expr_read_at kind m)
 expr_more kind n m l = let h = inside_more kind n m l in expr_grows kind (inside_at kind n) (inside_at kind m) h (unary_more kind n m h) (eats_levels kind n)
+
+-- ---- what is taken first
+
+pub first_taken : (room : ℕ) (n : Token) (ts : List Token) → of class type_classes n ≡ true → Far 1 (n ∷ ts) (expr_read_at full room (n ∷ ts))
+first_taken room n ts e = let k = known full room in expr_far (inside_at full room) (inner_at full room nowhere) (same_room full room nowhere) (k.parts nowhere) (exact_unary full room k nowhere) n ts e

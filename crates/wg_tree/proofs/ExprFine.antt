@@ -1,18 +1,18 @@
 -- What is read as an expression is spelled so, and what was read before a fault can be completed.
-use Rattle.std.proofs.Common.{◌≡◌, ℕ, zero, suc, ◌+◌, ◌<◌, ◌≤◌, Bool, true, false, List, [], ◌∷◌, ◌++◌, refl, sym, ◌∙◌, ap, subst, if◌then◌else◌, inl, inr, arith}
+use Rattle.std.proofs.Common.{◌≡◌, ℕ, zero, suc, ◌+◌, ◌≤◌, true, false, List, [], ◌∷◌, refl, inl, inr, arith}
 use Rattle.wg_tree.specs.declared.token.Token.{Token}
 use Rattle.wg_tree.specs.declared.expr.Expr.{Expr}
-use Rattle.wg_grammar.specs.Spans.{Span, Never, ◌or◌}
-use Rattle.wg_grammar.specs.Reading.{Reader, sees, begins, look}
-use Rattle.wg_grammar.specs.Parts.{Part, Edges, Readers, Rules, member, of, first, reads, spells, decides, covered, stops}
+use Rattle.wg_grammar.specs.Spans.{Span}
+use Rattle.wg_grammar.specs.Reading.{begins}
+use Rattle.wg_grammar.specs.Parts.{Part, Edges, member, of, spells, decides, covered, stops}
 use Rattle.wg_grammar.proofs.Sets.{both_true}
 use Rattle.wg_grammar.proofs.Fine as f
 use Rattle.wg_grammar.proofs.Fine.{Opens}
 use Rattle.wg_grammar.proofs.PartFine.{part_fine, part_starts}
 use Rattle.wg_tree.specs.Symbols.{NUMBER, class}
 use Rattle.wg_tree.specs.Depths.{Depth, deeper, Within}
-use Rattle.wg_tree.specs.GrammarExpr.{Kind, full, constant, argument, Nested, whole, operand, nested, Exprs, Inner, plain_operand, cast, zeros, number, unary, level, links, Sides, left, right, sides, choice, expr, inner_at, expr_at, with_forms}
-use Rattle.wg_tree.specs.ReadsExpr.{Inside, starts, nested_edges, level_edges, side_edges, cast_tests, zeros_tests, read_part, read_unary, read_level, read_expr, inside_at, expr_read_at}
+use Rattle.wg_tree.specs.GrammarExpr.{Kind, full, constant, argument, Nested, whole, operand, Exprs, Inner, plain_operand, cast, zeros, number, unary, level, links, Sides, left, right, sides, choice, expr, inner_at, expr_at, with_forms}
+use Rattle.wg_tree.specs.ReadsExpr.{starts, nested_edges, level_edges, side_edges, cast_tests, zeros_tests, read_part, read_unary, read_level, read_expr, inside_at, expr_read_at}
 use Rattle.wg_tree.proofs.Examples.{example}
 use Rattle.wg_tree.proofs.ExprDecides.{cast_decides, zeros_decides, plain_decides, levels_decide, all_levels, choice_decides}
 use Rattle.wg_tree.proofs.ExprExact.{expr_alone}
@@ -41,11 +41,11 @@ inner_room : (kind : Kind) (room : ℕ) (d : Depth) → 1 ≤ room → (inner_at
 inner_room kind zero d l = absurd (omega arith)
 inner_room kind (suc room) d l = refl
 
-inner_here : (kind : Kind) (room : ℕ) (d : Depth) (P : Depth → Type 0) → P d → P (inner_at kind room d).here
+pub inner_here : (kind : Kind) (room : ℕ) (d : Depth) (P : Depth → Type 0) → P d → P (inner_at kind room d).here
 inner_here kind zero d P h = h
 inner_here kind (suc room) d P h = h
 
-inner_below : (kind : Kind) (room : ℕ) (d : Depth) (P : Depth → Type 0) → P (deeper d) → P (inner_at kind room d).below
+pub inner_below : (kind : Kind) (room : ℕ) (d : Depth) (P : Depth → Type 0) → P (deeper d) → P (inner_at kind room d).below
 inner_below kind zero d P h = h
 inner_below kind (suc room) d P h = h
 
@@ -83,12 +83,12 @@ module _ (ok : Type 0) (limit : ℕ) where
       (k.0, k.1, λ z. opens_as (unary kind (inner_at kind room d)) (expr_at kind room d) ((t, k.0) ∷ []) (λ x i r. expr_alone kind (inner_at kind room d) x i r) (k.2 z))
 
   -- what is read with room n is spelled with room m
-  record Near (kind : Kind) (n m : ℕ) (d : Depth) : Type 0 where
-    roomy : ok → (inner_at kind m d).room ≡ true
-    grows : (inside_at kind n).room ≡ true → (inner_at kind m d).room ≡ true
-    here : Within limit (inner_at kind m d).here
-    shallow : (inside_at kind n).room ≡ true → Within limit (inner_at kind m d).below
-    deep : (inside_at kind n).room ≡ false → Within limit (inner_at kind m d).below → ⊥
+  pub record Near (kind : Kind) (n m : ℕ) (d : Depth) : Type 0 where
+    pub roomy : ok → (inner_at kind m d).room ≡ true
+    pub grows : (inside_at kind n).room ≡ true → (inner_at kind m d).room ≡ true
+    pub here : Within limit (inner_at kind m d).here
+    pub shallow : (inside_at kind n).room ≡ true → Within limit (inner_at kind m d).below
+    pub deep : (inside_at kind n).room ≡ false → Within limit (inner_at kind m d).below → ⊥
 
   module _ (kind : Kind) (n m : ℕ) (d : Depth) (near : Near kind n m d) (fine : (k : Nested) → f.Fine ok (Within limit) ((inside_at kind n).read k) ((inner_at kind m d).rule k)) where
     part_is_fine : {X : Type 0} (p : Part Token Nested Exprs X) → decides class (nested_edges kind) example p ≡ true → f.Fine ok (Within limit) (read_part kind (inside_at kind n) p) (spells class (inner_at kind m d) p)
@@ -121,7 +121,7 @@ module _ (ok : Type 0) (limit : ℕ) where
   fine_unary constant n m d near fine = part_is_fine constant n m d near fine (plain_operand constant) (plain_decides constant)
   fine_unary argument n m d near fine = part_is_fine argument n m d near fine (plain_operand argument) (plain_decides argument)
 
-  near_at : (kind : Kind) (n m : ℕ) (d : Depth) → d.statement ≤ limit → d.expression + n ≡ limit → n ≤ m → (ok → 1 ≤ m) → Near kind n m d
+  pub near_at : (kind : Kind) (n m : ℕ) (d : Depth) → d.statement ≤ limit → d.expression + n ≡ limit → n ≤ m → (ok → 1 ≤ m) → Near kind n m d
   near_at kind zero m d s e l o = record { roomy = λ z. inner_room kind m d (o z); grows = λ q. absurd (cc); here = inner_here kind m d (Within limit) (s, omega arith); shallow = λ q. absurd (cc); deep = λ q. inner_below kind m d (λ c. Within limit c → ⊥) (λ w. let k = w.1 in omega arith) }
   near_at kind (suc n) zero d s e l o = absurd (omega arith)
   near_at kind (suc n) (suc m) d s e l o = record { roomy = λ z. refl; grows = λ q. refl; here = (s, omega arith); shallow = λ q. (s, omega arith); deep = λ q. absurd (cc) }

@@ -16,7 +16,6 @@ use Rattle.wg_grammar.specs.Depths.{plain}
 use Rattle.wg_grammar.specs.Parts.{of, reads, spells, stops}
 use Rattle.wg_grammar.proofs.Kept.{Persists, persists_pure, persists_bind, persists_next, persists_take_if, persists_deep, Eats, eats_first, falls}
 use Rattle.wg_grammar.proofs.Full.{Full, full_pure, full_bind, full_for, full_next}
-use Rattle.wg_grammar.proofs.Look.{takes_none, takes_then}
 use Rattle.wg_grammar.proofs.Sets.{apart_other}
 use Rattle.wg_grammar.proofs.PartKept.{Grows, part_persists}
 use Rattle.wg_grammar.proofs.Exact.{Exact, exact_part, exact_for, exact_never, exact_next, exact_map, none_seen}
@@ -45,10 +44,10 @@ while_body a p t x = ap is_open (sym (s.rolls-While a p t x)) ∙ fold-roll-Stmt
 pub for_body : (a : List Attribute) (p : Place) (h : Header) (x : Stmt) → is_open (s.For a p h x) ≡ is_open x
 for_body a p h x = ap is_open (sym (s.rolls-For a p h x)) ∙ fold-roll-Stmt Bool open_step (Stmt-F.For a p h x)
 
-abbrev elses : List ℕ
+abbrev pub elses : List ℕ
 elses = code k.Else ∷ []
 
-abbrev NoElse : Stmt → List Token → Type 0
+abbrev pub NoElse : Stmt → List Token → Type 0
 NoElse x ts = is_open x ≡ true → sees (of class elses) ts ≡ false
 
 -- read exactly, where an `else` may follow what is not open
@@ -95,24 +94,24 @@ module _ (room : ℕ) (d : Depth) (p : Reads Stmt) (P : Rule Stmt) where
 -- ---- statements without braces of their own
 
 module _ (room : ℕ) (d : Depth) where
-  exact_piece : (n : Pieces) → Exact class (pieces_edges.first n) (pieces_edges.stops n) ((pieces_readers room).read n) ((pieces_rules room d).rule n)
+  pub exact_piece : (n : Pieces) → Exact class (pieces_edges.first n) (pieces_edges.stops n) ((pieces_readers room).read n) ((pieces_rules room d).rule n)
   exact_piece a_value = exact_expr_at full room (known full room) d
   exact_piece a_const = exact_expr_at constant room (known constant room) d
   exact_piece an_argument = exact_expr_at argument room (known argument room) d
   exact_piece opening = exact_opening room d
   exact_piece starting = exact_starting room d
 
-  exact_basic : Exact class basic_starts [] (reads class pieces_edges (pieces_readers room) basic) (spells class (pieces_rules room d) basic)
+  pub exact_basic : Exact class basic_starts [] (reads class pieces_edges (pieces_readers room) basic) (spells class (pieces_rules room d) basic)
   exact_basic = exact_for class basic_starts (stops pieces_edges basic) [] refl (exact_part class pieces_edges example (pieces_readers room) (pieces_rules room d) refl exact_piece basic basic_decides refl)
 
-  exact_head : Exact class head_starts [] (reads class pieces_edges (pieces_readers room) head) (spells class (pieces_rules room d) head)
+  pub exact_head : Exact class head_starts [] (reads class pieces_edges (pieces_readers room) head) (spells class (pieces_rules room d) head)
   exact_head = exact_for class head_starts (stops pieces_edges head) [] refl (exact_part class pieces_edges example (pieces_readers room) (pieces_rules room d) refl exact_piece head head_decides refl)
 
   module _ (p : Reads Stmt) (P : Rule Stmt) (set : List ℕ) (b : ExactBody p P set) where
     abbrev headed : Reads Stmt
     headed = reads class pieces_edges (pieces_readers room) head >>= read_finish room p
 
-    finish_self : (h : Head) → Persists (read_finish room p h) (read_finish room p h)
+    pub finish_self : (h : Head) → Persists (read_finish room p h) (read_finish room p h)
     finish_self h = finish_kept room d p P p b.exact.self h
 
     headed_whole : Full headed (Seq (spells class (pieces_rules room d) head) (finish P d)) NoElse
@@ -123,7 +122,6 @@ module _ (room : ℕ) (d : Depth) where
       self = persists_bind exact_head.self finish_self;
       eats = eats_first exact_head.eats (λ h. falls (finish_self h));
       refuses = λ ts e. ap (λ z. and_then z (read_finish room p)) (exact_head.refuses ts e);
-      bites = λ ts e. takes_then 1 ts (reads class pieces_edges (pieces_readers room) head ts) (read_finish room p) (exact_head.bites ts e) (λ h m. takes_none (finish_self h) m);
       begins = λ x i r h. exact_head.begins h.0 i h.1 h.2;
       full = full_for (λ x ts f o. f) headed_whole;
     }
@@ -136,13 +134,13 @@ module _ (room : ℕ) (d : Depth) where
 
   -- what is read with this block and this body one deeper
   module _ (B : Below) (L : Deeper) (blocks : Exact class brace [] B.block L.block) (bodies : ExactBody B.body L.body stmt_starts) where
-    abbrev plain_exact : ExactBody (read_unbraced room B.body) (unbraced room d L.body) (head_starts ++ basic_starts)
+    abbrev pub plain_exact : ExactBody (read_unbraced room B.body) (unbraced room d L.body) (head_starts ++ basic_starts)
     plain_exact = unbraced_exact B.body L.body stmt_starts bodies
 
-    exact_stmt : Exact class stmt_starts elses (read_stmt room B) (stmt room d L)
+    pub exact_stmt : Exact class stmt_starts elses (read_stmt room B) (stmt room d L)
     exact_stmt = exact_next class brace (head_starts ++ basic_starts) elses brace_apart (exact_for class brace [] elses refl (exact_map class brace [] block_of blocks)) plain_exact.exact
 
-    exact_block : Exact class brace [] (read_block room B) (block room d L)
+    pub exact_block : Exact class brace [] (read_block room B) (block room d L)
     exact_block = exact_for class brace (stops inside_edges braces) [] refl (exact_part class inside_edges example (record { room = true; read = λ n. read_stmt room B }) (record { room = true; here = d; below = d; rule = λ n. stmt room d L }) refl (λ n. exact_stmt) braces braces_decides refl)
 
     exact_body : ExactBody (read_body room B) (body room d L) stmt_starts
@@ -173,7 +171,7 @@ pub record MoreStmt (B C : Below) : Type 0 where
   pub block : Persists B.block C.block
   pub body : Persists B.body C.body
 
-pieces_more : (room more : ℕ) → room ≤ more → Grows (pieces_readers room) (pieces_readers more)
+pub pieces_more : (room more : ℕ) → room ≤ more → Grows (pieces_readers room) (pieces_readers more)
 pieces_more room more l = record { room = λ e. refl; kept = kept; eats = λ n. (exact_piece room nowhere n).eats }
   where
     kept : (n : Pieces) → Persists ((pieces_readers room).read n) ((pieces_readers more).read n)

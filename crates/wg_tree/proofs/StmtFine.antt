@@ -1,5 +1,5 @@
 -- What is read as a statement is spelled so: an `else` that is read follows no open statement.
-use Rattle.std.proofs.Common.{◌≡◌, ℕ, zero, suc, ◌+◌, ◌<◌, ◌≤◌, Bool, true, false, List, [], ◌∷◌, ◌++◌, refl, sym, ◌∙◌, ap, subst, if◌then◌else◌, inl, inr, ◌⊎◌, arith, Some, None, Option}
+use Rattle.std.proofs.Common.{◌≡◌, ℕ, Bool, true, false, List, [], ◌∷◌, refl, sym, ◌∙◌, ap, if◌then◌else◌, inl, inr, ◌⊎◌, Some, None}
 use Rattle.wg_words.specs.declared.place.Place.{Place}
 use Rattle.wg_tree.specs.declared.token.Token.{Token}
 use Rattle.wg_tree.specs.declared.keyword.Keyword.TheVariants as k
@@ -7,8 +7,8 @@ use Rattle.wg_tree.specs.declared.expr.Expr.{Expr}
 use Rattle.wg_tree.specs.declared.stmt.Attribute.{Attribute}
 use Rattle.wg_tree.specs.declared.stmt.Stmt.{Stmt}
 use Rattle.wg_tree.specs.declared.stmt.Stmt.TheVariants as s
-use Rattle.wg_grammar.specs.Spans.{Span, Seq, None_of, Leaf, Never, ◌or◌}
-use Rattle.wg_grammar.specs.Reading.{Outcome, Got, Wrong, Deep, Reader, and_then, ◌>>=◌, pure, sees, take_if, by_next, too_deep}
+use Rattle.wg_grammar.specs.Spans.{Seq, None_of, Leaf}
+use Rattle.wg_grammar.specs.Reading.{Outcome, Got, Wrong, Deep, and_then, ◌>>=◌, pure, sees, take_if, by_next}
 use Rattle.wg_grammar.specs.Parts.{of}
 use Rattle.wg_grammar.proofs.Fine as f
 use Rattle.wg_tree.specs.Symbols.{code, class}
@@ -18,7 +18,7 @@ use Rattle.wg_tree.specs.GrammarStmt.{Head, if_head, while_head, for_head, is_op
 use Rattle.wg_tree.specs.ReadsExpr.{Reads}
 use Rattle.wg_tree.specs.ReadsStmt.{read_finish}
 use Rattle.wg_tree.proofs.Examples.{example}
-use Rattle.wg_tree.proofs.StmtExact.{if_else, if_alone, while_body, for_body}
+use Rattle.wg_tree.proofs.StmtExact.{if_else, while_body, for_body}
 
 abbrev elses : List ℕ
 elses = code k.Else ∷ []

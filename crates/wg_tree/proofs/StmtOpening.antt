@@ -20,7 +20,8 @@ use Rattle.wg_grammar.specs.Depths.{plain}
 use Rattle.wg_grammar.specs.Takes.{Takes, matched}
 use Rattle.wg_grammar.specs.Parts.{Part, list, sub, member, of, reads, spells, first, stops, nullable, decides, ◌<$>◌, ◌<*>◌, ◌*>◌}
 use Rattle.wg_grammar.proofs.Kept.{Persists}
-use Rattle.wg_grammar.proofs.Look.{takes_none, persists_look}
+use Rattle.wg_grammar.proofs.Look.{persists_look}
+use Rattle.wg_grammar.proofs.Far.{Far, far_part, far_token, far_give, far_apply, left_read, none_matched, far_takes}
 use Rattle.wg_grammar.proofs.Sets.{both_true, covered_sees, covered_true, apart_sees, sees_none}
 use Rattle.wg_grammar.proofs.PartKept.{Grows, part_persists}
 use Rattle.wg_grammar.proofs.PartFull.{begun}
@@ -30,11 +31,12 @@ use Rattle.wg_tree.specs.Symbols.{mark_code, NAME, class}
 use Rattle.wg_tree.specs.Depths.{Depth}
 use Rattle.wg_tree.specs.GrammarExpr.{full, constant, by_code, classes, value_types, name, named, one_of, mark, optional}
 use Rattle.wg_tree.specs.GrammarStmt.{type_classes, type_of, a_type, declarator, declaration, size_of, step_rest, a_step, steps, step_operators, step_operator_of, Values, value, const, Value, values_rules, declared_stmt, stepped_stmt, declared_start, stepped_start}
-use Rattle.wg_tree.specs.ReadsExpr.{expr_stops, expr_read_at, inside_at}
+use Rattle.wg_tree.specs.GrammarItem.{outermost}
+use Rattle.wg_tree.specs.ReadsExpr.{starts, expr_stops, expr_read_at, inside_at}
 use Rattle.wg_tree.specs.ReadsStmt.{values_edges, declares, step_starts, opening_stops, starting_stops, values_readers}
 use Rattle.wg_tree.proofs.Examples.{example}
 use Rattle.wg_tree.proofs.ExprPaths.{only}
-use Rattle.wg_tree.proofs.ExprExact.{known, exact_expr_at, named_read, expr_wrong, unary_type_wrong, expr_more}
+use Rattle.wg_tree.proofs.ExprExact.{known, exact_expr_at, named_read, expr_wrong, unary_type_wrong, expr_more, first_taken}
 use Rattle.wg_tree.proofs.StmtDecides.{declared_stmt_decides, stepped_stmt_decides, declared_start_decides, stepped_start_decides}
 
 wrong_got : (x : Expr) (b c : List Token) → ◌≡◌ {A = Outcome Token Expr} (Wrong b) (Got x c) → ⊥
@@ -48,13 +50,75 @@ module _ (room : ℕ) (d : Depth) where
   exact_value value = exact_expr_at full room (known full room) d
   exact_value const = exact_expr_at constant room (known constant room) d
 
-  exact_of : {X : Type 0} (p : Part Token Values Value X) → decides class values_edges example p ≡ true → nullable p ≡ false → Exact class (first values_edges p) (stops values_edges p) (reads class values_edges (values_readers room) p) (spells class (values_rules room d) p)
-  exact_of p g n = exact_part class values_edges example (values_readers room) (values_rules room d) refl exact_value p g n
+-- ---- a declaration and a step take the type that they begin with
 
-  abbrev Cells : Type 0
+module _ (room : ℕ) where
+  pub values_self : Grows (values_readers room) (values_readers room)
+  values_self = record { room = λ e. e; kept = λ n. (exact_value room outermost n).self; eats = λ n. (exact_value room outermost n).eats }
+
+  abbrev pub Read : {X : Type 0} → Part Token Values Value X → Reader Token X
+  Read p = reads class values_edges (values_readers room) p
+
+  declaration_far : (n : Token) (ts : List Token) → of class type_classes n ≡ true → Far 1 (n ∷ ts) (Read (declaration (sub value) (sub const)) (n ∷ ts))
+  declaration_far n ts e =
+      let make : TypeName → Declarator → List Declarator → Declaration = λ of first rest. record { constant = None; of = of; first = first; rest = rest } in
+      far_apply class values_edges example (values_readers room) values_self (make <$> a_type <*> declarator (sub value) (sub const)) (list (mark "," *> declarator (sub value) (sub const))) 1 (n ∷ ts) refl
+      (far_apply class values_edges example (values_readers room) values_self (make <$> a_type) (declarator (sub value) (sub const)) 1 (n ∷ ts) refl
+      (far_give class values_edges example (values_readers room) values_self make a_type 1 (n ∷ ts) (far_token class values_edges example (values_readers room) values_self type_classes type_of n ts e)))
+
+  abbrev from_value : Part Token Values Value Step
+  from_value = (λ x rest. rest x) <$> sub value <*> step_rest (sub value)
+
+  abbrev before_value : Part Token Values Value Step
+  before_value = (λ t target. step.Before t.place (step_operator_of t) target) <$> one_of (classes step_operators) <*> sub value
+
+  step_far : (n : Token) (ts : List Token) → of class type_classes n ≡ true → Far 1 (n ∷ ts) (Read (a_step (sub value)) (n ∷ ts))
+  step_far n ts e =
+      subst (λ o. Far 1 (n ∷ ts) o) (sym (left_read class values_edges example (values_readers room) values_self from_value before_value (n ∷ ts) (covered_true class type_classes (starts full) (n ∷ ts) refl e)))
+      (far_apply class values_edges example (values_readers room) values_self ((λ x rest. rest x) <$> sub value) (step_rest (sub value)) 1 (n ∷ ts) refl
+      (far_give class values_edges example (values_readers room) values_self (λ x rest. rest x) (sub value) 1 (n ∷ ts) (first_taken room n ts e)))
+
+  steps_far : (n : Token) (ts : List Token) → of class type_classes n ≡ true → Far 1 (n ∷ ts) (Read (steps (sub value)) (n ∷ ts))
+  steps_far n ts e =
+      let make : Step → List Step → Steps = λ first rest. record { first = first; rest = rest } in
+      far_apply class values_edges example (values_readers room) values_self (make <$> a_step (sub value)) (list (mark "," *> a_step (sub value))) 1 (n ∷ ts) refl
+      (far_give class values_edges example (values_readers room) values_self make (a_step (sub value)) 1 (n ∷ ts) (step_far n ts e))
+
+  -- so what tells them apart stands before a token that is too deep
+  pub declared_far : {X : Type 0} (p : Part Token Values Value X) → ((n : Token) (ts : List Token) → of class type_classes n ≡ true → Far 1 (n ∷ ts) (Read p (n ∷ ts))) → (ts : List Token) → begins declares ts ≡ true → (n : ℕ) → 2 ≡ suc n → Far n ts (Read p ts)
+  declared_far p h [] b n l = absurd (cc)
+  declared_far p h (t ∷ ts) b n l = let one : 1 ≡ n = omega arith in subst (λ m. Far m (t ∷ ts) (Read p (t ∷ ts))) one (h t ts (both_true (of class type_classes t) _ b).0)
+
+  pub stepped_far : {X : Type 0} (p : Part Token Values Value X) → decides class values_edges example p ≡ true → ((n : Token) (ts : List Token) → of class type_classes n ≡ true → Far 1 (n ∷ ts) (Read p (n ∷ ts))) → (ts : List Token) → begins declares ts ≡ false → Far (matched declares ts) ts (Read p ts)
+  stepped_far p d h [] b = far_part class values_edges example (values_readers room) values_self p d []
+  stepped_far p d h (t ∷ ts) b = go (of class type_classes t) refl b
+    where
+      go : (v : Bool) → of class type_classes t ≡ v → (v && begins (of class (NAME ∷ []) ∷ []) ts) ≡ false → Far (if v then suc (matched (of class (NAME ∷ []) ∷ []) ts) else 0) (t ∷ ts) (Read p (t ∷ ts))
+      go true e b = subst (λ k. Far (suc k) (t ∷ ts) (Read p (t ∷ ts))) (sym (none_matched (of class (NAME ∷ [])) ts b)) (h t ts e)
+      go false e b = far_part class values_edges example (values_readers room) values_self p d (t ∷ ts)
+
+  pub declared_stmt_far : (n : Token) (ts : List Token) → of class type_classes n ≡ true → Far 1 (n ∷ ts) (Read declared_stmt (n ∷ ts))
+  declared_stmt_far n ts e = far_give class values_edges example (values_readers room) values_self (λ d. s.Declare d) (declaration (sub value) (sub const)) 1 (n ∷ ts) (declaration_far n ts e)
+
+  pub stepped_stmt_far : (n : Token) (ts : List Token) → of class type_classes n ≡ true → Far 1 (n ∷ ts) (Read stepped_stmt (n ∷ ts))
+  stepped_stmt_far n ts e = far_give class values_edges example (values_readers room) values_self (λ x. s.Step x) (a_step (sub value)) 1 (n ∷ ts) (step_far n ts e)
+
+  pub declared_start_far : (n : Token) (ts : List Token) → of class type_classes n ≡ true → Far 1 (n ∷ ts) (Read declared_start (n ∷ ts))
+  declared_start_far n ts e = far_give class values_edges example (values_readers room) values_self (λ d. start.Declare d) (declaration (sub value) (sub const)) 1 (n ∷ ts) (declaration_far n ts e)
+
+  pub stepped_start_far : (n : Token) (ts : List Token) → of class type_classes n ≡ true → Far 1 (n ∷ ts) (Read stepped_start (n ∷ ts))
+  stepped_start_far n ts e = far_give class values_edges example (values_readers room) values_self (λ x. start.Steps x) (steps (sub value)) 1 (n ∷ ts) (steps_far n ts e)
+
+-- ---- told apart
+
+module _ (room : ℕ) (d : Depth) where
+  exact_of : {X : Type 0} (p : Part Token Values Value X) → decides class values_edges example p ≡ true → nullable p ≡ false → Exact class (first values_edges p) (stops values_edges p) (reads class values_edges (values_readers room) p) (spells class (values_rules room d) p)
+  exact_of p g n = exact_part class values_edges example (values_readers room) (values_rules room d) refl (exact_value room d) p g n
+
+  abbrev pub Cells : Type 0
   Cells = List (Token × Depth)
 
-  abbrev Spells : {X : Type 0} → Part Token Values Value X → X → Span (Token × Depth)
+  abbrev pub Spells : {X : Type 0} → Part Token Values Value X → X → Span (Token × Depth)
   Spells p = spells class (values_rules room d) p
 
   -- a declaration begins with a type and a name
@@ -67,7 +131,7 @@ module _ (room : ℕ) (d : Depth) where
       let c = inv_apply class (values_rules room d) (named_with <$> name <*> size_of (sub const)) (optional (mark "=" *> sub value)) b.1 b.2 a.2 b.4 in
       let g = inv_two class (values_rules room d) named_with name (size_of (sub const)) c.0 b.2 c.2 c.3 in
       begins_more (of class type_classes) (of class (NAME ∷ []) ∷ []) i b.2 (inv_token class (values_rules room d) false type_classes type_of b.0 i b.2 b.3)
-      (begins_more (of class (NAME ∷ [])) [] b.2 g.2 (inv_token class (values_rules room d) false (NAME ∷ []) named g.0 b.2 g.2 g.3) refl)
+      (begins_more (of class (NAME ∷ [])) [] b.2 g.2 (inv_token class (values_rules room d) false (NAME ∷ []) named g.0 b.2 g.2 g.3) (refl {a = true}))
 
   two_tokens : (ts : List Token) → begins declares ts ≡ true → (t n : Token) × (rest : List Token) × (ts ≡ t ∷ n ∷ rest) × (of class type_classes t ≡ true) × (class n ≡ NAME)
   two_tokens [] h = absurd (cc)
@@ -101,10 +165,10 @@ module _ (room : ℕ) (d : Depth) where
       let a = inv_two class (values_rules room d) (λ (x : Expr) (rest : Expr → Step). rest x) (sub value) (step_rest (sub value)) x i r h in
       let t = two_tokens (plain i) k in
       let n = sees_none class (NAME ∷ []) (expr_stops full) (plain r) f in
-      let g = begun class values_edges example (values_rules room d) (λ n. (exact_value n).begins) (step_rest (sub value)) refl a.1 a.2 r a.4 in
+      let g = begun class values_edges example (values_rules room d) (λ n. (exact_value room d n).begins) (step_rest (sub value)) refl a.1 a.2 r a.4 in
       let follow : sees (of class (expr_stops full)) (plain a.2) ≡ false = elim g [ inl q ↦ ap (λ z. sees (of class (expr_stops full)) (plain z)) q.1 ∙ n.1 | inr q ↦ apart_sees class (first {Of = Value} values_edges (step_rest (sub value))) (expr_stops full) (plain a.2) refl q ] in
       let no_name : sees (of class (NAME ∷ [])) (plain a.2) ≡ false = elim g [ inl q ↦ ap (λ z. sees (of class (NAME ∷ [])) (plain z)) q.1 ∙ n.0 | inr q ↦ apart_sees class (first {Of = Value} values_edges (step_rest (sub value))) (NAME ∷ []) (plain a.2) refl q ] in
-      let read = subst (λ z. expr_read_at full room z ≡ Got a.0 (plain a.2)) t.3 ((exact_value value).full.reads a.0 i a.2 a.3 follow) in
+      let read = subst (λ z. expr_read_at full room z ≡ Got a.0 (plain a.2)) t.3 ((exact_value room d value).full.reads a.0 i a.2 a.3 follow) in
       let name = ends_at_name a.0 t.0 t.1 t.2 (plain a.2) t.4 t.5 read in
       both_ways (sees (of class (NAME ∷ [])) (plain a.2)) name no_name
     where
@@ -126,44 +190,31 @@ module _ (room : ℕ) (d : Depth) where
   never true h = absurd (h refl)
   never false h = refl
 
-  stmt_not_declared : (x : Stmt) (i r : Cells) → Spells stepped_stmt x i r → sees (of class opening_stops) (plain r) ≡ false → begins declares (plain i) ≡ false
+  pub stmt_not_declared : (x : Stmt) (i r : Cells) → Spells stepped_stmt x i r → sees (of class opening_stops) (plain r) ≡ false → begins declares (plain i) ≡ false
   stmt_not_declared x i r h f = let a = inv_give class (values_rules room d) (λ (x : Step). s.Step x) (a_step (sub value)) x i r h in
       never (begins declares (plain i)) (step_not_declared a.0 i r a.1 (covered_sees class After opening_stops (plain r) refl f))
 
-  start_not_declared : (x : Start) (i r : Cells) → Spells stepped_start x i r → sees (of class starting_stops) (plain r) ≡ false → begins declares (plain i) ≡ false
+  pub start_not_declared : (x : Start) (i r : Cells) → Spells stepped_start x i r → sees (of class starting_stops) (plain r) ≡ false → begins declares (plain i) ≡ false
   start_not_declared x i r h f =
       let a = inv_give class (values_rules room d) (λ (x : Steps). start.Steps x) (steps (sub value)) x i r h in
       let make_steps : Step → List Step → Steps = λ first rest. record { first = first; rest = rest } in
       let b = inv_two class (values_rules room d) make_steps (a_step (sub value)) (list (mark "," *> a_step (sub value))) a.0 i r a.1 in
-      let g = begun class values_edges example (values_rules room d) (λ n. (exact_value n).begins) (list (mark "," *> a_step (sub value))) refl b.1 b.2 r b.4 in
+      let g = begun class values_edges example (values_rules room d) (λ n. (exact_value room d n).begins) (list (mark "," *> a_step (sub value))) refl b.1 b.2 r b.4 in
       let follow : sees (of class After) (plain b.2) ≡ false = elim g [ inl q ↦ ap (λ z. sees (of class After) (plain z)) q.1 ∙ covered_sees class After starting_stops (plain r) refl f | inr q ↦ apart_sees class (mark_code "," ∷ []) After (plain b.2) refl q ] in
       never (begins declares (plain i)) (step_not_declared b.0 i b.2 b.3 follow)
 
-  stmt_declared : (x : Stmt) (i r : Cells) → Spells declared_stmt x i r → begins declares (plain i) ≡ true
+  pub stmt_declared : (x : Stmt) (i r : Cells) → Spells declared_stmt x i r → begins declares (plain i) ≡ true
   stmt_declared x i r h = let a = inv_give class (values_rules room d) (λ (x : Declaration). s.Declare x) (declaration (sub value) (sub const)) x i r h in declaration_passes a.0 i r a.1
 
-  start_declared : (x : Start) (i r : Cells) → Spells declared_start x i r → begins declares (plain i) ≡ true
+  pub start_declared : (x : Start) (i r : Cells) → Spells declared_start x i r → begins declares (plain i) ≡ true
   start_declared x i r h = let a = inv_give class (values_rules room d) (λ (x : Declaration). start.Declare x) (declaration (sub value) (sub const)) x i r h in declaration_passes a.0 i r a.1
 
   -- two tokens tell them apart
-  one_taken : {X : Type 0} (p : Reader Token X) (ends : List ℕ) {P : X → Span (Token × Depth)} → Exact class type_classes ends p P → (ts : List Token) → begins declares ts ≡ true → (n : ℕ) → 2 ≡ suc n → Takes n ts (p ts)
-  one_taken p ends h ts b n l = let t = two_tokens ts b in let one : 1 ≡ n = omega arith in subst (λ m. Takes m ts (p ts)) one (h.bites ts (ap (sees (of class type_classes)) t.3 ∙ t.4))
+  declared_taken : {X : Type 0} (p : Part Token Values Value X) → ((n : Token) (ts : List Token) → of class type_classes n ≡ true → Far 1 (n ∷ ts) (Read room p (n ∷ ts))) → (ts : List Token) → begins declares ts ≡ true → (n : ℕ) → 2 ≡ suc n → Takes n ts (Read room p ts)
+  declared_taken p h ts b n l = far_takes n ts (Read room p ts) (declared_far room p h ts b n l)
 
-  one_other : {X : Type 0} (q : Reader Token X) (ends : List ℕ) {Q : X → Span (Token × Depth)} → Exact class step_starts ends q Q → (ts : List Token) → begins declares ts ≡ false → Takes (matched declares ts) ts (q ts)
-  one_other q ends h [] b = takes_none h.self []
-  one_other {X = X} q ends h (t ∷ ts) b = go (of class type_classes t) refl b
-    where
-      fewer : (ts : List Token) → begins (of class (NAME ∷ []) ∷ []) ts ≡ false → matched (of class (NAME ∷ []) ∷ []) ts ≡ 0
-      fewer [] b = refl
-      fewer (n ∷ ts) b = ap (λ z. if z then suc (matched {T = Token} [] ts) else 0) (at (of class (NAME ∷ []) n) b)
-        where
-          at : (v : Bool) → (v && true) ≡ false → v ≡ false
-          at true b = absurd (cc)
-          at false b = refl
-
-      go : (v : Bool) → of class type_classes t ≡ v → (v && begins (of class (NAME ∷ []) ∷ []) ts) ≡ false → Takes (if v then suc (matched (of class (NAME ∷ []) ∷ []) ts) else 0) (t ∷ ts) (q (t ∷ ts))
-      go true w b = subst (λ m. Takes (suc m) (t ∷ ts) (q (t ∷ ts))) (sym (fewer ts b)) (h.bites (t ∷ ts) (covered_true class type_classes step_starts (t ∷ ts) refl w))
-      go false w b = takes_none h.self (t ∷ ts)
+  stepped_taken : {X : Type 0} (p : Part Token Values Value X) → decides class values_edges example p ≡ true → ((n : Token) (ts : List Token) → of class type_classes n ≡ true → Far 1 (n ∷ ts) (Read room p (n ∷ ts))) → (ts : List Token) → begins declares ts ≡ false → Takes (matched declares ts) ts (Read room p ts)
+  stepped_taken p d h ts b = far_takes (matched declares ts) ts (Read room p ts) (stepped_far room p d h ts b)
 
   declared_stmt_exact : Exact class type_classes opening_stops (reads class values_edges (values_readers room) declared_stmt) (Spells declared_stmt)
   declared_stmt_exact = exact_for class type_classes (stops values_edges declared_stmt) opening_stops refl (exact_of declared_stmt declared_stmt_decides refl)
@@ -179,16 +230,16 @@ module _ (room : ℕ) (d : Depth) where
 
   pub exact_opening : Exact class step_starts opening_stops (look declares (reads class values_edges (values_readers room) declared_stmt) (reads class values_edges (values_readers room) stepped_stmt)) (Spells declared_stmt or Spells stepped_stmt)
   exact_opening = exact_look class type_classes type_classes step_starts opening_stops (of class (NAME ∷ []) ∷ []) refl refl declared_stmt_exact stepped_stmt_exact
-      (one_taken (reads class values_edges (values_readers room) declared_stmt) opening_stops declared_stmt_exact) (one_other (reads class values_edges (values_readers room) stepped_stmt) opening_stops stepped_stmt_exact) stmt_declared stmt_not_declared
+      (declared_taken declared_stmt (declared_stmt_far room)) (stepped_taken stepped_stmt stepped_stmt_decides (stepped_stmt_far room)) stmt_declared stmt_not_declared
 
   pub exact_starting : Exact class step_starts starting_stops (look declares (reads class values_edges (values_readers room) declared_start) (reads class values_edges (values_readers room) stepped_start)) (Spells declared_start or Spells stepped_start)
   exact_starting = exact_look class type_classes type_classes step_starts starting_stops (of class (NAME ∷ []) ∷ []) refl refl declared_start_exact stepped_start_exact
-      (one_taken (reads class values_edges (values_readers room) declared_start) starting_stops declared_start_exact) (one_other (reads class values_edges (values_readers room) stepped_start) starting_stops stepped_start_exact) start_declared start_not_declared
+      (declared_taken declared_start (declared_start_far room)) (stepped_taken stepped_start stepped_start_decides (stepped_start_far room)) start_declared start_not_declared
 
   -- with more room
   module _ (more : ℕ) (l : room ≤ more) where
     pub values_more : Grows (values_readers room) (values_readers more)
-    values_more = record { room = λ q. refl; kept = kept; eats = λ n. (exact_value n).eats }
+    values_more = record { room = λ q. refl; kept = kept; eats = λ n. (exact_value room d n).eats }
       where
         kept : (n : Values) → Persists ((values_readers room).read n) ((values_readers more).read n)
         kept value = expr_more full room more l
@@ -196,8 +247,8 @@ module _ (room : ℕ) (d : Depth) where
 
     pub opening_more : Persists (look declares (reads class values_edges (values_readers room) declared_stmt) (reads class values_edges (values_readers room) stepped_stmt)) (look declares (reads class values_edges (values_readers more) declared_stmt) (reads class values_edges (values_readers more) stepped_stmt))
     opening_more = persists_look declares (part_persists class values_edges example (values_readers room) (values_readers more) values_more declared_stmt declared_stmt_decides) (part_persists class values_edges example (values_readers room) (values_readers more) values_more stepped_stmt stepped_stmt_decides)
-        (one_taken (reads class values_edges (values_readers room) declared_stmt) opening_stops declared_stmt_exact) (one_other (reads class values_edges (values_readers room) stepped_stmt) opening_stops stepped_stmt_exact)
+        (declared_taken declared_stmt (declared_stmt_far room)) (stepped_taken stepped_stmt stepped_stmt_decides (stepped_stmt_far room))
 
     pub starting_more : Persists (look declares (reads class values_edges (values_readers room) declared_start) (reads class values_edges (values_readers room) stepped_start)) (look declares (reads class values_edges (values_readers more) declared_start) (reads class values_edges (values_readers more) stepped_start))
     starting_more = persists_look declares (part_persists class values_edges example (values_readers room) (values_readers more) values_more declared_start declared_start_decides) (part_persists class values_edges example (values_readers room) (values_readers more) values_more stepped_start stepped_start_decides)
-        (one_taken (reads class values_edges (values_readers room) declared_start) starting_stops declared_start_exact) (one_other (reads class values_edges (values_readers room) stepped_start) starting_stops stepped_start_exact)
+        (declared_taken declared_start (declared_start_far room)) (stepped_taken stepped_start stepped_start_decides (stepped_start_far room))

@@ -18,7 +18,7 @@ use Rattle.wg_tree.proofs.ExprExact.{known, exact_expr_at, expr_more}
 use Rattle.wg_tree.proofs.StmtExact.{known_stmt, below_more}
 use Rattle.wg_tree.proofs.ItemDecides.{text_decides}
 
-exact_outer : (room : ℕ) (n : Outer) → Exact class (outer_edges.first n) (outer_edges.stops n) ((outer_readers room).read n) ((outer_rules room).rule n)
+pub exact_outer : (room : ℕ) (n : Outer) → Exact class (outer_edges.first n) (outer_edges.stops n) ((outer_readers room).read n) ((outer_rules room).rule n)
 exact_outer room a_const = exact_expr_at constant room (known constant room) outermost
 exact_outer room an_argument = exact_expr_at argument room (known argument room) outermost
 exact_outer room a_block = (known_stmt room room).block outermost
@@ -27,7 +27,7 @@ exact_outer room a_block = (known_stmt room room).block outermost
 pub complete : (room : ℕ) (tokens : List (Token × Depth)) (tree : Source) → SpellsWithin room tokens tree → read_text room (plain tokens) ≡ Got tree []
 complete room tokens tree h = (part_full class outer_edges example (outer_rules room) (λ n. (exact_outer room n).begins) (outer_readers room) refl (grows_self class outer_edges example (outer_readers room) (outer_rules room) refl (exact_outer room)) (λ n. (exact_outer room n).full) text text_decides).reads tree tokens [] h refl
 
-text_more : (room more : ℕ) → room ≤ more → Persists (read_text room) (read_text more)
+pub text_more : (room more : ℕ) → room ≤ more → Persists (read_text room) (read_text more)
 text_more room more l = part_persists class outer_edges example (outer_readers room) (outer_readers more) (record { room = λ e. refl; kept = kept; eats = λ n. (exact_outer room n).eats }) text text_decides
   where
     kept : (n : Outer) → Persists ((outer_readers room).read n) ((outer_readers more).read n)

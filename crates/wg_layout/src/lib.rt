@@ -1,0 +1,12 @@
+//! How values of HLSL types are laid out in words: sizes, the ranges of fields, and reads and writes in them.
+#![tactic(auto)]
+
+mod field;
+mod layouts;
+mod parts;
+mod sizes;
+
+pub use field::{read_field, write_field};
+pub use layouts::layout;
+pub use parts::{FieldRange, FieldRanges, Layout};
+pub use sizes::Sizes;

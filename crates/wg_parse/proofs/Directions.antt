@@ -1,0 +1,20 @@
+-- A parameter has a direction where the next token is one.
+use Rattle.std.proofs.Common.{◌≡◌, Bool, true, List, [], ◌∷◌, refl, sym, subst, if◌then◌else◌, Some, None}
+use Rattle.wg_tree.specs.declared.token.Token.{Token}
+use Rattle.wg_tree.specs.declared.keyword.Keyword.TheVariants as k
+use Rattle.wg_grammar.specs.Reading.{Got, Wrong, and_then, sees, take_if}
+use Rattle.wg_grammar.specs.Parts.{of}
+use Rattle.wg_tree.specs.Symbols.{code, class}
+use Rattle.wg_tree.specs.GrammarItem.{directed}
+use Rattle.wg_parse.specs.Pieces.{direction}
+use Rattle.wg_parse.specs.PartReads.{item_read}
+
+abbrev is_direction : Token → Bool
+is_direction = of class (code k.In ∷ code k.Out ∷ code k.InOut ∷ [])
+
+pub with_direction : (ts : List Token) → sees is_direction ts ≡ true → item_read 0 direction ts ≡ and_then (take_if is_direction (λ t. t) ts) (λ t rest. Got (Some (directed t)) rest)
+with_direction [] e = absurd (cc)
+with_direction (t ∷ ts) e =
+    let P : Bool → Type 0 = λ b. (if b then and_then (if b then Got (directed t) ts else Wrong (t ∷ ts)) (λ x rest. Got (Some x) rest) else Got None (t ∷ ts))
+    ≡ and_then (if b then Got t ts else Wrong (t ∷ ts)) (λ t rest. Got (Some (directed t)) rest) in
+    subst P (sym e) refl

@@ -1,0 +1,294 @@
+//! Declarations of a text.
+ghost use Rattle.wg_tree.specs.GrammarItem as grammar;
+ghost use Rattle.wg_tree.specs.ReadsItem.{read_text};
+ghost use Rattle.wg_parse.specs.Gives.{Gives};
+ghost use Rattle.wg_parse.specs.PartReads.{item_read};
+ghost use Rattle.wg_parse.specs.Pieces as pieces;
+
+use crate::attribute::attributes;
+use crate::body::block;
+use crate::classes::class;
+use crate::cursor::Cursor;
+use crate::declaration::size;
+use crate::expr::expr;
+use crate::halt::Halt;
+use crate::kind::Kind;
+use crate::parameter::{parameters, semantic};
+use crate::rule::{Rule, many};
+use crate::symbols::*;
+use crate::types::{TYPES, a_type, type_argument};
+use crate::words::*;
+use sqlite_items::Items;
+use std::alloc::Global;
+use wg_tree::{BufferType, Field, Item, Keyword, Named, ResultType, Source};
+use wg_words::Place;
+
+const RAW_BUFFERS: [u32; 2] = [RW_BYTE_ADDRESS_BUFFER, BYTE_ADDRESS_BUFFER];
+
+const STRUCTURED_BUFFERS: [u32; 2] = [RW_STRUCTURED_BUFFER, STRUCTURED_BUFFER];
+
+/// The classes with which the declaration of a buffer begins.
+const BUFFERS: [u32; 5] = [
+    GLOBALLY_COHERENT,
+    RW_BYTE_ADDRESS_BUFFER,
+    BYTE_ADDRESS_BUFFER,
+    RW_STRUCTURED_BUFFER,
+    STRUCTURED_BUFFER,
+];
+
+/// The classes with which a declaration of a text begins.
+const ITEM_STARTS: [u32; 23] = [
+    STRUCT,
+    GLOBALLY_COHERENT,
+    RW_BYTE_ADDRESS_BUFFER,
+    BYTE_ADDRESS_BUFFER,
+    RW_STRUCTURED_BUFFER,
+    STRUCTURED_BUFFER,
+    GROUP_SHARED,
+    STATIC,
+    LEFT_BRACKET,
+    VOID,
+    NAME,
+    BOOL,
+    BOOL2,
+    BOOL3,
+    BOOL4,
+    INT,
+    INT2,
+    INT3,
+    INT4,
+    UINT,
+    UINT2,
+    UINT3,
+    UINT4,
+];
+
+#[derive(Drop)]
+struct AField {
+    room: u32,
+}
+
+impl Rule for AField {
+    ghost use Rattle.wg_tree.specs.GrammarItem as grammar;
+    ghost use Rattle.wg_parse.specs.PartReads.{item_read};
+
+    type Tree = Field;
+
+    ghost reads = { λ rule. item_read rule.room grammar.field };
+
+    fn read(&self, alloc: Global, cursor: &mut Cursor<'_>) -> Result<Field, Halt> {
+        let of = a_type(alloc, cursor)?;
+        let name = cursor.name(alloc)?;
+        let size = size(alloc, cursor, self.room)?;
+        let semantic = semantic(alloc, cursor)?;
+        cursor.mark(SEMICOLON)?;
+        Ok(Field {
+            of,
+            name,
+            size,
+            semantic,
+        })
+    }
+}
+
+fn struct_item(alloc: Global, cursor: &mut Cursor<'_>, room: u32) -> Result<Item, Halt>
+    ensures { Gives (item_read room grammar.struct_item cursor.old) result cursor.new }
+{
+    let place = cursor.word(Keyword::Struct)?;
+    let attributes = attributes(alloc, cursor, room)?;
+    let name = cursor.name(alloc)?;
+    cursor.mark(LEFT_BRACE)?;
+    let fields = many(alloc, cursor, &TYPES, &AField { room })?;
+    cursor.mark(RIGHT_BRACE)?;
+    cursor.mark(SEMICOLON)?;
+    Ok(Item::Struct {
+        place,
+        attributes,
+        name,
+        fields,
+    })
+}
+
+fn buffer_type(alloc: Global, cursor: &mut Cursor<'_>) -> Result<BufferType, Halt>
+    ensures { Gives (item_read 0 grammar.a_buffer_type cursor.old) result cursor.new }
+{
+    if cursor.sees(&RAW_BUFFERS) {
+        let token = cursor.take(&RAW_BUFFERS)?;
+        return Ok(BufferType::Raw {
+            place: token.place,
+            writable: class(token) == RW_BYTE_ADDRESS_BUFFER,
+        });
+    }
+    let token = cursor.take(&STRUCTURED_BUFFERS)?;
+    let of = type_argument(alloc, cursor)?;
+    Ok(BufferType::Structured {
+        place: token.place,
+        writable: class(token) == RW_STRUCTURED_BUFFER,
+        of,
+    })
+}
+
+#[derive(Drop)]
+struct NextName;
+
+impl Rule for NextName {
+    ghost use Rattle.wg_parse.specs.PartReads.{item_read};
+    ghost use Rattle.wg_parse.specs.Pieces as pieces;
+
+    type Tree = Named;
+
+    ghost reads = { λ rule. item_read 0 pieces.next_name };
+
+    fn read(&self, alloc: Global, cursor: &mut Cursor<'_>) -> Result<Named, Halt> {
+        cursor.mark(COMMA)?;
+        cursor.name(alloc)
+    }
+}
+
+fn some_names(alloc: Global, cursor: &mut Cursor<'_>) -> Result<Items<Named>, Halt>
+    ensures { Gives (item_read 0 pieces.some_names cursor.old) result cursor.new }
+{
+    let mut names = Items::new(alloc);
+    names.push(cursor.name(alloc)?)?;
+    names.append(many(alloc, cursor, &[COMMA], &NextName)?)?;
+    Ok(names)
+}
+
+/// The registers of a buffer, if it names any.
+fn registers(alloc: Global, cursor: &mut Cursor<'_>) -> Result<Items<Named>, Halt>
+    ensures { Gives (item_read 0 grammar.registers cursor.old) result cursor.new }
+{
+    if !cursor.sees(&[COLON]) {
+        return Ok(Items::new(alloc));
+    }
+    cursor.mark(COLON)?;
+    cursor.word(Keyword::Register)?;
+    cursor.mark(LEFT_PAREN)?;
+    let names = some_names(alloc, cursor)?;
+    cursor.mark(RIGHT_PAREN)?;
+    Ok(names)
+}
+
+fn coherent(cursor: &mut Cursor<'_>) -> Result<Option<Place>, Halt>
+    ensures { Gives (item_read 0 pieces.coherent cursor.old) result cursor.new }
+{
+    if !cursor.sees(&[GLOBALLY_COHERENT]) {
+        return Ok(None);
+    }
+    Ok(Some(cursor.word(Keyword::GloballyCoherent)?))
+}
+
+fn buffer_item(alloc: Global, cursor: &mut Cursor<'_>) -> Result<Item, Halt>
+    ensures { Gives (item_read 0 grammar.buffer_item cursor.old) result cursor.new }
+{
+    let coherent = coherent(cursor)?;
+    let of = buffer_type(alloc, cursor)?;
+    let name = cursor.name(alloc)?;
+    let registers = registers(alloc, cursor)?;
+    cursor.mark(SEMICOLON)?;
+    Ok(Item::Buffer {
+        coherent,
+        of,
+        name,
+        registers,
+    })
+}
+
+fn shared_item(alloc: Global, cursor: &mut Cursor<'_>, room: u32) -> Result<Item, Halt>
+    ensures { Gives (item_read room grammar.shared_item cursor.old) result cursor.new }
+{
+    let place = cursor.word(Keyword::GroupShared)?;
+    let of = a_type(alloc, cursor)?;
+    let name = cursor.name(alloc)?;
+    let size = size(alloc, cursor, room)?;
+    cursor.mark(SEMICOLON)?;
+    Ok(Item::Shared {
+        place,
+        of,
+        name,
+        size,
+    })
+}
+
+fn constant_item(alloc: Global, cursor: &mut Cursor<'_>, room: u32) -> Result<Item, Halt>
+    ensures { Gives (item_read room grammar.constant_item cursor.old) result cursor.new }
+{
+    let place = cursor.word(Keyword::Static)?;
+    cursor.word(Keyword::Const)?;
+    let of = a_type(alloc, cursor)?;
+    let name = cursor.name(alloc)?;
+    cursor.mark(ASSIGN)?;
+    let value = expr(alloc, cursor, Kind::Constant, room)?;
+    cursor.mark(SEMICOLON)?;
+    Ok(Item::Constant {
+        place,
+        of,
+        name,
+        value,
+    })
+}
+
+fn result_type(alloc: Global, cursor: &mut Cursor<'_>) -> Result<ResultType, Halt>
+    ensures { Gives (item_read 0 grammar.a_result cursor.old) result cursor.new }
+{
+    if cursor.sees(&[VOID]) {
+        let place = cursor.word(Keyword::Void)?;
+        return Ok(ResultType::Void { place });
+    }
+    let of = a_type(alloc, cursor)?;
+    Ok(ResultType::Value { of })
+}
+
+fn function_item(alloc: Global, cursor: &mut Cursor<'_>, room: u32) -> Result<Item, Halt>
+    ensures { Gives (item_read room grammar.function_item cursor.old) result cursor.new }
+{
+    let attributes = attributes(alloc, cursor, room)?;
+    let result = result_type(alloc, cursor)?;
+    let name = cursor.name(alloc)?;
+    let parameters = parameters(alloc, cursor, room)?;
+    let (place, body) = block(alloc, cursor, room, room)?;
+    Ok(Item::Function {
+        attributes,
+        result,
+        name,
+        parameters,
+        place,
+        body,
+    })
+}
+
+#[derive(Drop)]
+struct AnItem {
+    room: u32,
+}
+
+impl Rule for AnItem {
+    ghost use Rattle.wg_tree.specs.GrammarItem as grammar;
+    ghost use Rattle.wg_parse.specs.PartReads.{item_read};
+
+    type Tree = Item;
+
+    ghost reads = { λ rule. item_read rule.room grammar.an_item };
+
+    fn read(&self, alloc: Global, cursor: &mut Cursor<'_>) -> Result<Item, Halt> {
+        if cursor.sees(&[STRUCT]) {
+            struct_item(alloc, cursor, self.room)
+        } else if cursor.sees(&BUFFERS) {
+            buffer_item(alloc, cursor)
+        } else if cursor.sees(&[GROUP_SHARED]) {
+            shared_item(alloc, cursor, self.room)
+        } else if cursor.sees(&[STATIC]) {
+            constant_item(alloc, cursor, self.room)
+        } else {
+            function_item(alloc, cursor, self.room)
+        }
+    }
+}
+
+/// Declarations, as long as the next token begins one.
+pub(crate) fn text(alloc: Global, cursor: &mut Cursor<'_>, room: u32) -> Result<Source, Halt>
+    ensures { Gives (read_text room cursor.old) result cursor.new }
+{
+    let items = many(alloc, cursor, &ITEM_STARTS, &AnItem { room })?;
+    Ok(Source { items })
+}

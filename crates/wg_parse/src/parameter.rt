@@ -1,0 +1,164 @@
+//! Parameters of functions.
+ghost use Rattle.std.specs.Prelude.{◌≡◌};
+ghost use Rattle.wg_tree.specs.GrammarItem as grammar;
+ghost use Rattle.wg_parse.specs.Gives.{Gives};
+ghost use Rattle.wg_parse.specs.PartReads.{item_read};
+ghost use Rattle.wg_parse.specs.Pieces as pieces;
+
+use crate::attribute::attributes;
+use crate::classes::class;
+use crate::cursor::Cursor;
+use crate::halt::Halt;
+use crate::rule::{Rule, many};
+use crate::symbols::*;
+use crate::types::{TYPES, a_type, parameter_object};
+use crate::words::*;
+use sqlite_items::Items;
+use std::alloc::Global;
+use wg_tree::{Directed, Direction, Named, Parameter, ParameterType, Token};
+
+const DIRECTIONS: [u32; 3] = [IN, OUT, IN_OUT];
+
+/// The classes with which a parameter begins.
+const PARAMETER_STARTS: [u32; 28] = [
+    LEFT_BRACKET,
+    IN,
+    OUT,
+    IN_OUT,
+    NAME,
+    BOOL,
+    BOOL2,
+    BOOL3,
+    BOOL4,
+    INT,
+    INT2,
+    INT3,
+    INT4,
+    UINT,
+    UINT2,
+    UINT3,
+    UINT4,
+    DISPATCH_NODE_INPUT_RECORD,
+    RW_DISPATCH_NODE_INPUT_RECORD,
+    GROUP_NODE_INPUT_RECORDS,
+    RW_GROUP_NODE_INPUT_RECORDS,
+    THREAD_NODE_INPUT_RECORD,
+    RW_THREAD_NODE_INPUT_RECORD,
+    NODE_OUTPUT,
+    NODE_OUTPUT_ARRAY,
+    EMPTY_NODE_INPUT,
+    EMPTY_NODE_OUTPUT,
+    EMPTY_NODE_OUTPUT_ARRAY,
+];
+
+/// The system value of a field or a parameter, if it names one.
+pub(crate) fn semantic(alloc: Global, cursor: &mut Cursor<'_>) -> Result<Option<Named>, Halt>
+    ensures { Gives (item_read 0 grammar.semantic cursor.old) result cursor.new }
+{
+    if !cursor.sees(&[COLON]) {
+        return Ok(None);
+    }
+    cursor.mark(COLON)?;
+    Ok(Some(cursor.name(alloc)?))
+}
+
+fn directed(token: &Token) -> Directed
+    ensures { result ≡ grammar.directed token.now }
+{
+    Directed {
+        place: token.place,
+        direction: match class(token) {
+            OUT => Direction::Out,
+            IN_OUT => Direction::InOut,
+            _ => Direction::In,
+        },
+    }
+}
+
+#[tactic(auto, using(crate::proofs::Directions::with_direction))]
+fn direction(cursor: &mut Cursor<'_>) -> Result<Option<Directed>, Halt>
+    ensures { Gives (item_read 0 pieces.direction cursor.old) result cursor.new }
+{
+    if !cursor.sees(&DIRECTIONS) {
+        return Ok(None);
+    }
+    let token = cursor.take(&DIRECTIONS)?;
+    Ok(Some(directed(token)))
+}
+
+fn parameter_type(alloc: Global, cursor: &mut Cursor<'_>) -> Result<ParameterType, Halt>
+    ensures { Gives (item_read 0 pieces.parameter_type_part cursor.old) result cursor.new }
+{
+    if cursor.sees(&TYPES) {
+        let of = a_type(alloc, cursor)?;
+        return Ok(ParameterType::Value { of });
+    }
+    let of = parameter_object(alloc, cursor)?;
+    Ok(ParameterType::Object { of })
+}
+
+fn parameter(alloc: Global, cursor: &mut Cursor<'_>, room: u32) -> Result<Parameter, Halt>
+    ensures { Gives (item_read room grammar.a_parameter cursor.old) result cursor.new }
+{
+    let attributes = attributes(alloc, cursor, room)?;
+    let direction = direction(cursor)?;
+    let of = parameter_type(alloc, cursor)?;
+    let name = cursor.name(alloc)?;
+    let semantic = semantic(alloc, cursor)?;
+    Ok(Parameter {
+        attributes,
+        direction,
+        of,
+        name,
+        semantic,
+    })
+}
+
+#[derive(Drop)]
+struct NextParameter {
+    room: u32,
+}
+
+impl Rule for NextParameter {
+    ghost use Rattle.wg_parse.specs.PartReads.{item_read};
+    ghost use Rattle.wg_parse.specs.Pieces as pieces;
+
+    type Tree = Parameter;
+
+    ghost reads = { λ rule. item_read rule.room pieces.next_parameter };
+
+    fn read(&self, alloc: Global, cursor: &mut Cursor<'_>) -> Result<Parameter, Halt> {
+        cursor.mark(COMMA)?;
+        parameter(alloc, cursor, self.room)
+    }
+}
+
+fn some_parameters(
+    alloc: Global,
+    cursor: &mut Cursor<'_>,
+    room: u32,
+) -> Result<Items<Parameter>, Halt>
+    ensures { Gives (item_read room pieces.some_parameters cursor.old) result cursor.new }
+{
+    let mut parameters = Items::new(alloc);
+    parameters.push(parameter(alloc, cursor, room)?)?;
+    parameters.append(many(alloc, cursor, &[COMMA], &NextParameter { room })?)?;
+    Ok(parameters)
+}
+
+pub(crate) fn parameters(
+    alloc: Global,
+    cursor: &mut Cursor<'_>,
+    room: u32,
+) -> Result<Items<Parameter>, Halt>
+    ensures { Gives (item_read room grammar.parameters cursor.old) result cursor.new }
+{
+    cursor.mark(LEFT_PAREN)?;
+    let parameters = if cursor.sees(&PARAMETER_STARTS) {
+        some_parameters(alloc, cursor, room)?
+    } else {
+        Items::new(alloc)
+    };
+    cursor.mark(RIGHT_PAREN)?;
+    Ok(parameters)
+}

@@ -1,0 +1,135 @@
+//! A whole text.
+ghost use Rattle.std.specs.Prelude.{◌≡◌, IfOk, IfErr};
+ghost use Rattle.wg_tree.specs.ParseFaults.{SpelledWithin, Answer, IsAnswer};
+ghost use Rattle.wg_parse.specs.Faults as spec;
+
+use crate::classes::classes;
+use crate::cursor::Cursor;
+use crate::halt::Halt;
+use crate::item::text;
+use std::alloc::{AllocError, Global};
+use wg_tree::{Source, Token, TokenKind, one_answer, reads_to_the_fault, reads_what_is_spelled};
+use wg_words::{Place, TryCopy};
+
+/// How deep statements and expressions may nest, each.
+pub const MOST_NESTING: u32 = 64;
+
+/// Why tokens are not those of a text of the language.
+#[derive(Debug, Drop)]
+pub enum ParseFault {
+    /// No text begins with the tokens up to this one, or the tokens end before the text does. At the end the kind is `End`, and the place that of the byte after the last token.
+    Expected { place: Place, kind: TokenKind },
+    /// The first token that stands deeper than 64.
+    TooDeep { place: Place },
+    /// No memory was left.
+    Memory,
+}
+
+/// An equal kind.
+fn copy_kind(alloc: Global, kind: &TokenKind) -> Result<TokenKind, AllocError>
+    ensures { IfOk result (λ copied. copied ≡ kind.now) }
+{
+    Ok(match kind {
+        TokenKind::Plain { name } => TokenKind::Plain {
+            name: name.copy(alloc)?,
+        },
+        TokenKind::Number { value, unsigned } => TokenKind::Number {
+            value: *value,
+            unsigned: *unsigned,
+        },
+        TokenKind::Text { bytes } => TokenKind::Text {
+            bytes: bytes.copy(alloc)?,
+        },
+        TokenKind::Mark { code } => TokenKind::Mark { code: *code },
+        TokenKind::End => TokenKind::End,
+    })
+}
+
+/// The place of the byte after the last token.
+fn end_of(tokens: &[Token]) -> Place
+    requires { spec.EndFits (spec.last tokens.now) }
+    ensures { result ≡ spec.end_of (spec.last tokens.now) }
+{
+    match tokens.last() {
+        Some(token) => Place {
+            line: token.place.line,
+            column: token.place.column + (token.to - token.from),
+        },
+        None => Place { line: 1, column: 1 },
+    }
+}
+
+/// The place of the next token, or of the end.
+fn place_at(tokens: &[Token], rest: &[Token]) -> Place
+    requires { spec.EndFits (spec.last tokens.now) }
+    ensures { result ≡ spec.place_at tokens.now rest.now }
+{
+    match rest {
+        [] => end_of(tokens),
+        [next, ..] => next.place,
+    }
+}
+
+fn kind_at(alloc: Global, rest: &[Token]) -> Result<TokenKind, AllocError>
+    ensures { IfOk result (λ kind. kind ≡ spec.kind_at rest.now) }
+{
+    match rest {
+        [] => Ok(TokenKind::End),
+        [next, ..] => copy_kind(alloc, &next.kind),
+    }
+}
+
+/// The fault of tokens that could go on with none of the rest, which is where reading stopped.
+fn expected(alloc: Global, tokens: &[Token], rest: &[Token]) -> ParseFault
+    requires { spec.EndFits (spec.last tokens.now) }
+    ensures { spec.SaysExpected tokens.now rest.now result }
+{
+    match kind_at(alloc, rest) {
+        Ok(kind) => ParseFault::Expected {
+            place: place_at(tokens, rest),
+            kind,
+        },
+        Err(_) => ParseFault::Memory,
+    }
+}
+
+/// The tree of the tokens of a text within a nesting, or the first token that fails.
+fn parse_within(alloc: Global, tokens: &[Token], nesting: u32) -> Result<Source, ParseFault>
+    requires { spec.IsOfText tokens.now }
+    ensures tree { IfOk result (λ tree. SpelledWithin nesting tokens.now tree) }
+    ensures fault { IfErr result (λ fault. spec.HasCause nesting tokens.now fault) }
+    ensures exact { (answer : Answer) → IsAnswer nesting tokens.now answer → spec.Tells tokens.now answer result }
+{
+    reads_what_is_spelled();
+    reads_to_the_fault();
+    one_answer();
+    let classes = match classes(alloc, tokens) {
+        Ok(classes) => classes,
+        Err(_) => return Err(ParseFault::Memory),
+    };
+    let mut cursor = Cursor::new(tokens, &classes);
+    match text(alloc, &mut cursor, nesting) {
+        Ok(tree) => {
+            if cursor.left() == 0 {
+                Ok(tree)
+            } else {
+                Err(expected(alloc, tokens, cursor.rest()))
+            }
+        }
+        Err(Halt::Wrong) => Err(expected(alloc, tokens, cursor.rest())),
+        Err(Halt::Deep) => Err(ParseFault::TooDeep {
+            place: place_at(tokens, cursor.rest()),
+        }),
+        Err(Halt::Memory) => Err(ParseFault::Memory),
+    }
+}
+
+/// The tree of the tokens of a text, or the first token that fails.
+pub fn parse(alloc: Global, tokens: &[Token]) -> Result<Source, ParseFault>
+    requires { spec.IsOfText tokens.now }
+    ensures tree { IfOk result (λ tree. SpelledWithin spec.nesting tokens.now tree) }
+    ensures fault { IfErr result (λ fault. spec.HasCause spec.nesting tokens.now fault) }
+    ensures exact { (answer : Answer) → IsAnswer spec.nesting tokens.now answer → spec.Tells tokens.now answer result }
+{
+    parse_within(alloc, tokens, MOST_NESTING)
+}

@@ -1,0 +1,9 @@
+pub mod CutLemmas
+pub mod FitLemmas
+pub mod GivenLemmas
+pub mod GoodLemmas
+pub mod NameLemmas
+pub mod NumberLemmas
+pub mod RuleLemmas
+pub mod RunLemmas
+pub mod UnitLemmas

@@ -1,0 +1,85 @@
+use Rattle.std.proofs.Common.{◌≡◌, ◌∙◌, [], ℕ, List, None, Result, Err, length, replicate, sym, ap, subst, ⊎_elim, arith}
+use Rattle.wg_script.specs.declared.script.Script.{Script}
+use Rattle.wg_script.specs.declared.script.ScriptFault.{ScriptFault}
+use Rattle.wg_script.specs.declared.script.ScriptFault.TheVariants as faults
+use Rattle.wg_script.specs.Fit.{IsFit}
+use Rattle.wg_script.specs.Lines.{all_said}
+use Rattle.wg_script.specs.Reading.{Sofar}
+use Rattle.wg_script.specs.Rules.{IsFirstFault}
+use Rattle.wg_script.specs.Script.{IsScript}
+use Rattle.wg_script.specs.Words.{lines_of}
+use Rattle.wg_script.proofs.RunLemmas.{Goes, lines_some, title_fault, goes_first, goes_few, goes_on, goes_wrong, goes_end, not_good}
+use Rattle.wg_script.proofs.FitLemmas.{is_fit}
+use Rattle.wg_script.proofs.GivenLemmas.{is_script}
+use Rattle.wg_script.proofs.reading.read_lines.Goals as goal
+
+abbrev failed : ScriptFault → Result Script ScriptFault
+failed f = Err f
+
+fault_is : {f g : ScriptFault} → failed f ≡ failed g → f ≡ g
+fault_is e = cc
+
+pub returns-in_default-clause-fault : goal.returns-in_default-clause-fault
+returns-in_default-clause-fault c = λ fault e ne. absurd (lines_some c.args.text.now (sym c.new-lines.ensures ∙ c.in_default.ensures.0))
+
+pub returns-then-not-is_title-clause-fault : goal.returns-then-not-is_title-clause-fault
+returns-then-not-is_title-clause-fault c = λ fault e ne.
+    (subst (IsFirstFault c.args.shape.now c.args.text.now) (fault_is e)
+    (title_fault c.args.shape.now c.args.text.now c.in-Some.title.now c.next.new.self (sym c.new-lines.ensures ∙ c.in-Some.ensures) (sym c.is_title.ensures ∙ c.if-not-is_title.true)))
+
+pub loop-line-init : goal.loop-line-init
+loop-line-init c =
+    let first = goes_first c.args.shape.now c.args.text.now c.in-Some.title.now c.next.new.self (sym c.new-lines.ensures ∙ c.in-Some.ensures) (sym c.is_title.ensures ∙ c.if-not-is_title.false) in
+    let draft = c.in_ok-draft.ensures ∙ ap (λ (n : ℕ). record { entries = []; given = replicate n None; asked = 0 }) c.len.ensures in
+    subst (λ (s : Sofar). Goes c.args.shape.now c.args.text.now s c.next.new.self 1) (sym draft) first
+
+pub overflow_add-number : goal.overflow_add-number
+overflow_add-number c =
+    let few = goes_few c.args.shape.now c.args.text.now c.loop-line.draft c.loop-line.lines c.loop-line.number c.loop-line.invariant in
+    let line = ap (λ (l : List (List ℕ)). length l) c.in-Some-next.ensures in
+    omega arith
+
+pub loop-line-preserved : goal.loop-line-preserved
+loop-line-preserved c =
+    goes_on c.args.shape.now c.args.text.now c.loop-line.draft c.add_line.new.draft c.in-Some-next.line.now c.next-in-loop-line.new.self c.loop-line.number
+    (subst (λ (l : List (List ℕ)). Goes c.args.shape.now c.args.text.now c.loop-line.draft l c.loop-line.number) c.in-Some-next.ensures c.loop-line.invariant) c.in-Ok.ensures
+
+pub returns-in-Err-clause-fault : goal.returns-in-Err-clause-fault
+returns-in-Err-clause-fault c = λ fault e ne. ⊎_elim
+    (λ memory. absurd (ne (sym (fault_is e) ∙ memory)))
+    (λ wrong.
+    (subst (IsFirstFault c.args.shape.now c.args.text.now) (fault_is e)
+    (goes_wrong c.args.shape.now c.args.text.now c.loop-line.draft c.in-Some-next.line.now c.next-in-loop-line.new.self c.loop-line.number c.in-Err.fault
+    (subst (λ (l : List (List ℕ)). Goes c.args.shape.now c.args.text.now c.loop-line.draft l c.loop-line.number) c.in-Some-next.ensures c.loop-line.invariant) wrong)))
+    c.in-Err.ensures
+
+pub returns-clause-good : goal.returns-clause-good
+returns-clause-good c =
+    (goes_end c.args.shape.now c.args.text.now c.loop-line.draft c.loop-line.number
+    (subst (λ (l : List (List ℕ)). Goes c.args.shape.now c.args.text.now c.loop-line.draft l c.loop-line.number) c.in_default-next.ensures.0 c.loop-line.invariant)).good
+
+pub returns-clause-script : goal.returns-clause-script
+returns-clause-script c =
+    let end = goes_end c.args.shape.now c.args.text.now c.loop-line.draft c.loop-line.number
+    (subst (λ (l : List (List ℕ)). Goes c.args.shape.now c.args.text.now c.loop-line.draft l c.loop-line.number) c.in_default-next.ensures.0 c.loop-line.invariant) in
+    subst (IsScript c.args.shape.now (all_said (lines_of c.args.text.now))) (sym c.in_ok-finish.ensures) (is_script c.args.shape.now c.loop-line.draft (all_said (lines_of c.args.text.now)) end.stands)
+
+pub returns-clause-fit : goal.returns-clause-fit
+returns-clause-fit c = subst (IsFit c.args.shape.now) (sym c.in_ok-finish.ensures) (is_fit c.args.shape.now c.loop-line.draft c.loop-line.invariant.holds)
+
+pub returns-in_default-clause-only : goal.returns-in_default-clause-only
+returns-in_default-clause-only c = λ good fault e. absurd (lines_some c.args.text.now (sym c.new-lines.ensures ∙ c.in_default.ensures.0))
+
+pub returns-then-not-is_title-clause-only : goal.returns-then-not-is_title-clause-only
+returns-then-not-is_title-clause-only c = λ good fault e.
+    (absurd (not_good c.args.shape.now c.args.text.now (faults.Form 1)
+    (title_fault c.args.shape.now c.args.text.now c.in-Some.title.now c.next.new.self (sym c.new-lines.ensures ∙ c.in-Some.ensures) (sym c.is_title.ensures ∙ c.if-not-is_title.true)) good))
+
+pub returns-in-Err-clause-only : goal.returns-in-Err-clause-only
+returns-in-Err-clause-only c = λ good fault e. ⊎_elim
+    (λ memory. sym (fault_is e) ∙ memory)
+    (λ wrong.
+    (absurd (not_good c.args.shape.now c.args.text.now c.in-Err.fault
+    (goes_wrong c.args.shape.now c.args.text.now c.loop-line.draft c.in-Some-next.line.now c.next-in-loop-line.new.self c.loop-line.number c.in-Err.fault
+    (subst (λ (l : List (List ℕ)). Goes c.args.shape.now c.args.text.now c.loop-line.draft l c.loop-line.number) c.in-Some-next.ensures c.loop-line.invariant) wrong) good)))
+    c.in-Err.ensures

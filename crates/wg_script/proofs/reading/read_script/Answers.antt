@@ -1,0 +1,6 @@
+use Rattle.std.proofs.Common.{arith}
+use Rattle.wg_script.proofs.UnitLemmas.{units_few}
+use Rattle.wg_script.proofs.reading.read_script.Goals as goal
+
+pub read_lines-requires : goal.read_lines-requires
+read_lines-requires c = let few = units_few c.args.shape.now c.requires in omega arith

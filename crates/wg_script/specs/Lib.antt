@@ -1,0 +1,9 @@
+pub mod Fit
+pub mod Lines
+pub mod Names
+pub mod Naming
+pub mod Numbers
+pub mod Reading
+pub mod Rules
+pub mod Script
+pub mod Words

@@ -1,0 +1,29 @@
+-- What statements and loops do after a part of them has ended.
+use Rattle.std.specs.Prelude.{Bool, true, false, Option, Some, None, Result, Ok, Err}
+use Rattle.wg_tree.specs.Turns.{Step, ◌>>◌, turn}
+use Rattle.wg_tree.specs.declared.state.State.{State}
+use Rattle.wg_tree.specs.declared.state.Flow.{Flow}
+use Rattle.wg_tree.specs.declared.state.Flow.TheVariants as flow
+use Rattle.wg_meaning.specs.declared.halt.Halt.{Halt}
+
+-- whether the statements after one run
+abbrev pub goes_on : Flow → Bool
+goes_on flow.Next = true
+goes_on flow.Broke = false
+goes_on flow.Continued = false
+goes_on (flow.Returned words) = false
+
+-- a loop's body takes a turn
+abbrev pub entered : Step State Flow → Step State Flow
+entered body = turn >> body
+
+-- how a loop ends after its body, if it does
+abbrev pub loop_left : Flow → Option Flow
+loop_left flow.Next = None
+loop_left flow.Continued = None
+loop_left flow.Broke = Some flow.Next
+loop_left (flow.Returned words) = Some (flow.Returned words)
+
+abbrev pub next_result : Result (Unit {0}) Halt → Result Flow Halt
+next_result (Ok u) = Ok flow.Next
+next_result (Err h) = Err h

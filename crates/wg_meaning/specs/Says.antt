@@ -1,0 +1,45 @@
+-- What the program's answer says of a step.
+use Rattle.std.specs.Prelude.{◌≡◌, ⊤, ℕ, List, Option, Some, None, Result, Ok, Err}
+use Rattle.wg_tree.specs.Turns.{Outcome, Spent, Done, Step, ◌>>=◌, pure}
+use Rattle.wg_tree.specs.declared.state.State.{State}
+use Rattle.wg_tree.specs.declared.state.Spot.{Spot}
+use Rattle.wg_tree.specs.declared.state.Spot.TheVariants as spot
+use Rattle.wg_tree.specs.Places.{Setting, written}
+use Rattle.wg_tree.specs.Calls.{Callee, Seen}
+use Rattle.wg_tree.specs.ExprMeaning.{word_of}
+use Rattle.wg_tree.specs.StepMeaning.{raw_word}
+use Rattle.wg_tree.specs.FunctionMeaning.{callees_of}
+use Rattle.wg_meaning.specs.declared.halt.Halt.{Halt}
+use Rattle.wg_meaning.specs.declared.halt.Halt.TheVariants as halt
+use Rattle.wg_meaning.specs.declared.place.Setting.{Setting as Given}
+use Rattle.wg_meaning.specs.Pieces.{setting_of}
+
+-- turns are spent where the step spends them; want of memory or of depth says nothing
+abbrev pub Stops : {S A : Type 0} → Outcome S A → Halt → Type 0
+Stops o halt.Turns = o ≡ Spent
+Stops o halt.Memory = ⊤
+Stops o halt.Depth = ⊤
+
+-- the step's own answer, state and turns left
+abbrev pub Says : {S A : Type 0} → Outcome S A → Result A Halt → S → ℕ → Type 0
+Says o (Ok a) s t = o ≡ Done a s t
+Says o (Err h) s t = Stops o h
+
+-- the meanings of the functions that may be called
+abbrev pub callees_in : Given → List Callee
+callees_in s = callees_of (setting_of s) s.earlier.now
+
+-- the state after a copy back
+abbrev pub back_in : Option Spot → List ℕ → State → State
+back_in None words s = s
+back_in (Some p) words s = written p words s
+
+abbrev pub spot_result : Result (List ℕ) Halt → Result Spot Halt
+spot_result (Ok words) = Ok (spot.Value words)
+spot_result (Err h) = Err h
+
+-- the word of a raw buffer that an interlocked form changes
+abbrev pub raw_destination_of : Setting → ℕ → Seen → Step State Spot
+raw_destination_of setting buffer address = do
+  at ← word_of setting address
+  pure (raw_word buffer at)

@@ -1,0 +1,581 @@
+ghost use Rattle.std.specs.Prelude.{◌≡◌, ◌≤◌, [], ◌∷◌, IfOk, length, map, option_map};
+ghost use Rattle.wg_tree.specs.declared.state.Spot.TheVariants as spot;
+ghost use Rattle.wg_tree.specs.Turns.{Done, each};
+ghost use Rattle.wg_tree.specs.Places.{array_size};
+ghost use Rattle.wg_tree.specs.Calls.{value_of, all_passed, passed, called, callee_at, direction_in, parameter_words};
+ghost use Rattle.wg_tree.specs.ExprMeaning.{seen, kind_does, follows, links, word_of, index_of, followed, chained, operated, components_of};
+ghost use Rattle.wg_meaning.specs.Pieces.{setting_of};
+ghost use Rattle.wg_meaning.specs.Says.{Says, callees_in, spot_result};
+
+use crate::calls::{Calls, Run, copy_all_back, passed_words};
+use crate::halt::Halt;
+use crate::intrinsics::call as call_intrinsic;
+use crate::layout::{Piece, field_piece, size};
+use crate::operators::{combine_all, convert, prefix_all, scalar, truth_word};
+use crate::place::{
+    Setting, buffer_place, element, fetch, handle_place, input_place, part, raw_words,
+};
+use crate::requests::target;
+use crate::words::{pick, put_all, word as word_at, zero_words};
+use sqlite_items::{Boxed, Items};
+use std::alloc::AllocError;
+use wg_tree::{
+    Access, BinaryOperator, Directed, Direction, Passed, Spot, State, Store, TypeTree, TypedExpr,
+    TypedKind, TypedLink, TypedParameter, TypedParameterType,
+};
+use wg_words::{Word, WordLists, Words};
+
+/// What an expression gives: words, or where they stand.
+#[cycle(expr)]
+pub fn spot<C: Calls>(
+    setting: &Setting<'_>,
+    calls: &C,
+    e: &TypedExpr,
+    run: &mut Run,
+) -> Result<Spot, Halt>
+    ensures says { Says ((seen (setting_of setting.now) (callees_in setting.now) e.now).spot run.old.state run.old.turns) result run.new.state run.new.turns }
+    ensures turns { run.new.turns ≤ run.old.turns }
+{
+    kind(setting, calls, &e.kind, e.of, run)
+}
+
+/// The words of an expression's value.
+#[cycle(expr)]
+pub fn value<C: Calls>(
+    setting: &Setting<'_>,
+    calls: &C,
+    e: &TypedExpr,
+    run: &mut Run,
+) -> Result<Words, Halt>
+    ensures says { Says (value_of setting.now.structs.now (seen (setting_of setting.now) (callees_in setting.now) e.now) run.old.state run.old.turns) result run.new.state run.new.turns }
+    ensures turns { run.new.turns ≤ run.old.turns }
+{
+    let at = match spot(setting, calls, e, run) {
+        Ok(at) => at,
+        Err(halt) => return Err(halt),
+    };
+    let words = fetch(setting, e.of, &at, &run.state)?;
+    Ok(words)
+}
+
+/// The one word of a scalar's value.
+#[cycle(expr)]
+pub fn word<C: Calls>(
+    setting: &Setting<'_>,
+    calls: &C,
+    e: &TypedExpr,
+    run: &mut Run,
+) -> Result<Word, Halt>
+    ensures says { Says (word_of (setting_of setting.now) (seen (setting_of setting.now) (callees_in setting.now) e.now) run.old.state run.old.turns) result run.new.state run.new.turns }
+    ensures turns { run.new.turns ≤ run.old.turns }
+{
+    match value(setting, calls, e, run) {
+        Ok(words) => Ok(word_at(words.as_slice(), 0)),
+        Err(halt) => Err(halt),
+    }
+}
+
+#[cycle(expr)]
+fn index<C: Calls>(
+    setting: &Setting<'_>,
+    calls: &C,
+    at: &Option<Boxed<TypedExpr>>,
+    run: &mut Run,
+) -> Result<Word, Halt>
+    ensures says { Says (index_of (setting_of setting.now) (option_map (seen (setting_of setting.now) (callees_in setting.now)) at.now) run.old.state run.old.turns) result run.new.state run.new.turns }
+    ensures turns { run.new.turns ≤ run.old.turns }
+{
+    match at {
+        Some(e) => word(setting, calls, e.get(), run),
+        None => Ok(0),
+    }
+}
+
+/// The values of expressions, from left to right.
+#[cycle(expr)]
+fn values<C: Calls>(
+    setting: &Setting<'_>,
+    calls: &C,
+    es: &Items<TypedExpr>,
+    run: &mut Run,
+) -> Result<WordLists, Halt>
+    ensures says { Says (each (map (value_of setting.now.structs.now) (map (seen (setting_of setting.now) (callees_in setting.now)) es.now)) run.old.state run.old.turns) result run.new.state run.new.turns }
+    ensures turns { run.new.turns ≤ run.old.turns }
+{
+    let mut list = WordLists::new(setting.alloc);
+    for e in es.as_slice() {
+        let words = match value(setting, calls, e, run) {
+            Ok(words) => words,
+            Err(halt) => return Err(halt),
+        };
+        list.push(words)?;
+    }
+    Ok(list)
+}
+
+/// The forms after a value, from left to right.
+#[cycle(expr)]
+fn follow<C: Calls>(
+    setting: &Setting<'_>,
+    calls: &C,
+    forms: &Items<Access>,
+    of: TypeTree,
+    base: Spot,
+    run: &mut Run,
+) -> Result<Spot, Halt>
+    ensures says { Says (followed (map (follows (setting_of setting.now) (callees_in setting.now)) forms.now) of base run.old.state run.old.turns) result run.new.state run.new.turns }
+    ensures turns { run.new.turns ≤ run.old.turns }
+{
+    let mut at = base;
+    let mut t = of;
+    for form in forms.as_slice() {
+        at = match access(setting, calls, form, t, at, run) {
+            Ok(next) => next,
+            Err(halt) => return Err(halt),
+        };
+        t = type_after(setting, form);
+    }
+    Ok(at)
+}
+
+#[cycle(expr)]
+fn access<C: Calls>(
+    setting: &Setting<'_>,
+    calls: &C,
+    form: &Access,
+    t: TypeTree,
+    at: Spot,
+    run: &mut Run,
+) -> Result<Spot, Halt>
+    ensures says { Says ((follows (setting_of setting.now) (callees_in setting.now) form.now).after t at run.old.state run.old.turns) result run.new.state run.new.turns }
+    ensures turns { run.new.turns ≤ run.old.turns }
+{
+    match form {
+        Access::Field { field, .. } => {
+            let piece = field_piece(setting.alloc, setting.structs, t, *field)?;
+            Ok(part(setting.alloc, piece, at)?)
+        }
+        Access::Components { components, .. } => Ok(read_components(
+            setting, components, t, at, run,
+        )?),
+        Access::Index { index, of } => {
+            let i = match word(setting, calls, index, run) {
+                Ok(i) => i,
+                Err(halt) => return Err(halt),
+            };
+            let words = size(setting.alloc, setting.structs, *of)?;
+            Ok(element(setting.alloc, array_length(t), words, i, at)?)
+        }
+    }
+}
+
+/// The operators of a chain, from left to right.
+#[cycle(expr)]
+fn chain<C: Calls>(
+    setting: &Setting<'_>,
+    calls: &C,
+    rest: &Items<TypedLink>,
+    of: TypeTree,
+    first: Words,
+    run: &mut Run,
+) -> Result<Words, Halt>
+    ensures says { Says (chained (map (links (setting_of setting.now) (callees_in setting.now)) rest.now) of first run.old.state run.old.turns) result run.new.state run.new.turns }
+    ensures turns { run.new.turns ≤ run.old.turns }
+{
+    let mut words = first;
+    let mut t = of;
+    for link in rest.as_slice() {
+        words = match link_after(setting, calls, link, t, words, run) {
+            Ok(next) => next,
+            Err(halt) => return Err(halt),
+        };
+        t = link.of;
+    }
+    Ok(words)
+}
+
+#[cycle(expr)]
+fn link_after<C: Calls>(
+    setting: &Setting<'_>,
+    calls: &C,
+    link: &TypedLink,
+    t: TypeTree,
+    words: Words,
+    run: &mut Run,
+) -> Result<Words, Halt>
+    ensures says { Says ((links (setting_of setting.now) (callees_in setting.now) link.now).next t words run.old.state run.old.turns) result run.new.state run.new.turns }
+    ensures turns { run.new.turns ≤ run.old.turns }
+{
+    match link.before {
+        None => operate(setting, calls, link.operator, t, &link.operand, words, run),
+        Some(by) => {
+            let words = convert(setting.alloc, t, by, words.as_slice())?;
+            operate(setting, calls, link.operator, by, &link.operand, words, run)
+        }
+    }
+}
+
+/// An operator on a value and an expression; `&&` and `||` evaluate only what they need.
+#[cycle(expr)]
+fn operate<C: Calls>(
+    setting: &Setting<'_>,
+    calls: &C,
+    operator: BinaryOperator,
+    t: TypeTree,
+    e: &TypedExpr,
+    words: Words,
+    run: &mut Run,
+) -> Result<Words, Halt>
+    ensures says { Says (operated (setting_of setting.now) operator t (seen (setting_of setting.now) (callees_in setting.now) e.now) words run.old.state run.old.turns) result run.new.state run.new.turns }
+    ensures turns { run.new.turns ≤ run.old.turns }
+{
+    match operator {
+        BinaryOperator::And => {
+            if word_at(words.as_slice(), 0) != 0 {
+                value(setting, calls, e, run)
+            } else {
+                Ok(Words::from_slice(setting.alloc, &[0])?)
+            }
+        }
+        BinaryOperator::Or => {
+            if word_at(words.as_slice(), 0) != 0 {
+                Ok(Words::from_slice(setting.alloc, &[1])?)
+            } else {
+                value(setting, calls, e, run)
+            }
+        }
+        _ => {
+            let right = match value(setting, calls, e, run) {
+                Ok(right) => right,
+                Err(halt) => return Err(halt),
+            };
+            Ok(combine_all(
+                setting.alloc,
+                operator,
+                scalar(t),
+                words.as_slice(),
+                right.as_slice(),
+            )?)
+        }
+    }
+}
+
+fn type_after(setting: &Setting<'_>, form: &Access) -> TypeTree
+    ensures { result ≡ (follows (setting_of setting.now) (callees_in setting.now) form.now).of }
+{
+    match form {
+        Access::Field { of, .. } | Access::Components { of, .. } | Access::Index { of, .. } => *of,
+    }
+}
+
+fn array_length(t: TypeTree) -> u32
+    ensures { result ≡ array_size t }
+{
+    match t {
+        TypeTree::Array { size, .. } => size,
+        TypeTree::Scalar { .. } | TypeTree::Vector { .. } | TypeTree::Struct { .. } => 0,
+    }
+}
+
+/// Components of a vector, by number: of one its place, of several their words.
+#[tactic(auto, using(crate::proofs::Lists::one_component, crate::proofs::Lists::several_components))]
+fn read_components(
+    setting: &Setting<'_>,
+    components: &Words,
+    t: TypeTree,
+    at: Spot,
+    run: &Run,
+) -> Result<Spot, AllocError>
+    ensures { IfOk result (λ p. components_of (setting_of setting.now) components.now t at run.now.state run.now.turns ≡ Done p run.now.state run.now.turns) }
+{
+    let components = components.as_slice();
+    if components.len() == 1 {
+        let from = u64::from(components[0]);
+        part(setting.alloc, Piece { from, to: from + 1 }, at)
+    } else {
+        let words = fetch(setting, t, &at, &run.state)?;
+        let words = pick(setting.alloc, words.as_slice(), components)?;
+        Ok(Spot::Value { words })
+    }
+}
+
+/// One argument by its parameter's direction.
+#[cycle(expr)]
+fn pass<C: Calls>(
+    setting: &Setting<'_>,
+    calls: &C,
+    parameter: &TypedParameter,
+    e: &TypedExpr,
+    run: &mut Run,
+) -> Result<Passed, Halt>
+    ensures says { Says (passed setting.now.structs.now parameter.now (seen (setting_of setting.now) (callees_in setting.now) e.now) run.old.state run.old.turns) result run.new.state run.new.turns }
+    ensures turns { run.new.turns ≤ run.old.turns }
+{
+    match direction(parameter.direction) {
+        Direction::In => match value(setting, calls, e, run) {
+            Ok(words) => Ok(Passed { words, back: None }),
+            Err(halt) => Err(halt),
+        },
+        Direction::Out => {
+            let at = match spot(setting, calls, e, run) {
+                Ok(at) => at,
+                Err(halt) => return Err(halt),
+            };
+            let count = parameter_size(setting, parameter.of)?;
+            let words = zero_words(setting.alloc, count)?;
+            Ok(Passed {
+                words,
+                back: Some(at),
+            })
+        }
+        Direction::InOut => {
+            let at = match spot(setting, calls, e, run) {
+                Ok(at) => at,
+                Err(halt) => return Err(halt),
+            };
+            let words = fetch(setting, e.of, &at, &run.state)?;
+            Ok(Passed {
+                words,
+                back: Some(at),
+            })
+        }
+    }
+}
+
+fn direction(written: Option<Directed>) -> Direction
+    ensures { result ≡ direction_in written }
+{
+    match written {
+        Some(directed) => directed.direction,
+        None => Direction::In,
+    }
+}
+
+fn parameter_size(setting: &Setting<'_>, of: TypedParameterType) -> Result<u64, AllocError>
+    ensures { IfOk result (λ n. n ≡ parameter_words setting.now.structs.now of) }
+{
+    match of {
+        TypedParameterType::Value { of } => size(setting.alloc, setting.structs, of),
+        TypedParameterType::Object { .. } => Ok(0),
+    }
+}
+
+/// The arguments from left to right, each by its parameter.
+#[cycle(expr)]
+#[tactic(auto, using(crate::proofs::Calling::none_left))]
+fn pass_all<C: Calls>(
+    setting: &Setting<'_>,
+    calls: &C,
+    parameters: &Items<TypedParameter>,
+    arguments: &Items<TypedExpr>,
+    run: &mut Run,
+) -> Result<wg_words::Items<Passed>, Halt>
+    ensures says { Says (all_passed setting.now.structs.now parameters.now (map (seen (setting_of setting.now) (callees_in setting.now)) arguments.now) run.old.state run.old.turns) result run.new.state run.new.turns }
+    ensures turns { run.new.turns ≤ run.old.turns }
+{
+    let mut list = wg_words::Items::new(setting.alloc);
+    let parameters = parameters.as_slice();
+    let mut at = 0;
+    for e in arguments.as_slice() {
+        if at >= parameters.len() {
+            return Ok(list);
+        }
+        let first = match pass(setting, calls, &parameters[at], e, run) {
+            Ok(first) => first,
+            Err(halt) => return Err(halt),
+        };
+        list.push(first)?;
+        at += 1;
+    }
+    Ok(list)
+}
+
+/// A call: its arguments, the function, and the copies back.
+#[cycle(expr)]
+pub fn call<C: Calls>(
+    setting: &Setting<'_>,
+    calls: &C,
+    function: u32,
+    arguments: &Items<TypedExpr>,
+    run: &mut Run,
+) -> Result<Words, Halt>
+    ensures says { Says (called setting.now.structs.now (callee_at (callees_in setting.now) function) (map (seen (setting_of setting.now) (callees_in setting.now)) arguments.now) run.old.state run.old.turns) result run.new.state run.new.turns }
+    ensures turns { run.new.turns ≤ run.old.turns }
+{
+    if (function as usize) >= setting.earlier.len() {
+        return Ok(Words::new(setting.alloc));
+    }
+    let callee = &setting.earlier[function as usize];
+    let given = match pass_all(setting, calls, &callee.parameters, arguments, run) {
+        Ok(given) => given,
+        Err(halt) => return Err(halt),
+    };
+    let values = passed_words(setting.alloc, &given)?;
+    let (result, left) = match calls.call(setting, function, values, run) {
+        Ok(back) => back,
+        Err(halt) => return Err(halt),
+    };
+    copy_all_back(setting.alloc, &given, &left, &mut run.state);
+    Ok(result)
+}
+
+/// What an expression of a kind gives, by its type.
+#[cycle(expr)]
+fn kind<C: Calls>(
+    setting: &Setting<'_>,
+    calls: &C,
+    kind: &TypedKind,
+    t: TypeTree,
+    run: &mut Run,
+) -> Result<Spot, Halt>
+    ensures says { Says (kind_does (setting_of setting.now) (callees_in setting.now) kind.now t run.old.state run.old.turns) result run.new.state run.new.turns }
+    ensures turns { run.new.turns ≤ run.old.turns }
+{
+    match kind {
+        TypedKind::Literal { words } => {
+            let words = Words::from_slice(setting.alloc, words.as_slice())?;
+            Ok(Spot::Value { words })
+        }
+        TypedKind::Local { local } => Ok(Spot::At {
+            store: Store::Local { local: *local },
+            from: 0,
+        }),
+        TypedKind::Parameter { parameter } => Ok(Spot::At {
+            store: Store::Parameter {
+                parameter: *parameter,
+            },
+            from: 0,
+        }),
+        TypedKind::Shared { variable } => Ok(Spot::At {
+            store: Store::Shared {
+                variable: *variable,
+            },
+            from: 0,
+        }),
+        TypedKind::Element { buffer, index } => {
+            let at = match value(setting, calls, index.get(), run) {
+                Ok(words) => word_at(words.as_slice(), 0),
+                Err(halt) => return Err(halt),
+            };
+            let words = size(setting.alloc, setting.structs, t)?;
+            Ok(buffer_place(*buffer, words, at, &run.state)?)
+        }
+        TypedKind::Load { buffer, address } => {
+            let at = match value(setting, calls, address.get(), run) {
+                Ok(words) => word_at(words.as_slice(), 0),
+                Err(halt) => return Err(halt),
+            };
+            let words = raw_words(setting, t, *buffer, at, &run.state)?;
+            Ok(Spot::Value { words })
+        }
+        TypedKind::Input { index: at } => match index(setting, calls, at, run) {
+            Ok(at) => Ok(input_place(at, &run.state)),
+            Err(halt) => Err(halt),
+        },
+        TypedKind::Count => Ok(record_count(setting, &run.state)?),
+        TypedKind::Handle { handle, index: at } => match index(setting, calls, at, run) {
+            Ok(at) => Ok(handle_place(setting, *handle, at, &run.state)),
+            Err(halt) => Err(halt),
+        },
+        TypedKind::IsValid {
+            output,
+            element: at,
+        } => match index(setting, calls, at, run) {
+            Ok(at) => Ok(one_word(
+                setting,
+                truth_word(target(setting.outputs, *output, at).is_some()),
+            )?),
+            Err(halt) => Err(halt),
+        },
+        TypedKind::Levels => Ok(one_word(setting, setting.level)?),
+        TypedKind::Zeros => {
+            let count = size(setting.alloc, setting.structs, t)?;
+            let words = zero_words(setting.alloc, count)?;
+            Ok(Spot::Value { words })
+        }
+        TypedKind::Access { base, forms } => match spot(setting, calls, base.get(), run) {
+            Ok(at) => follow(setting, calls, forms, base.get().of, at, run),
+            Err(halt) => Err(halt),
+        },
+        TypedKind::Prefix { operator, operand } => {
+            let words = match value(setting, calls, operand.get(), run) {
+                Ok(words) => words,
+                Err(halt) => return Err(halt),
+            };
+            let words = prefix_all(setting.alloc, *operator, scalar(t), words.as_slice())?;
+            Ok(Spot::Value { words })
+        }
+        TypedKind::Convert { operand } => {
+            let words = match value(setting, calls, operand.get(), run) {
+                Ok(words) => words,
+                Err(halt) => return Err(halt),
+            };
+            let words = convert(setting.alloc, operand.get().of, t, words.as_slice())?;
+            Ok(Spot::Value { words })
+        }
+        TypedKind::Chain { first, rest } => {
+            let words = match value(setting, calls, first.get(), run) {
+                Ok(words) => words,
+                Err(halt) => return Err(halt),
+            };
+            as_spot(chain(setting, calls, rest, first.get().of, words, run))
+        }
+        TypedKind::Choice { test, then, other } => {
+            let c = match value(setting, calls, test.get(), run) {
+                Ok(words) => word_at(words.as_slice(), 0),
+                Err(halt) => return Err(halt),
+            };
+            if c != 0 {
+                as_spot(value(setting, calls, then.get(), run))
+            } else {
+                as_spot(value(setting, calls, other.get(), run))
+            }
+        }
+        TypedKind::Construct { parts } => {
+            let parts = match values(setting, calls, parts, run) {
+                Ok(parts) => parts,
+                Err(halt) => return Err(halt),
+            };
+            let words = put_all(setting.alloc, &parts)?;
+            Ok(Spot::Value { words })
+        }
+        TypedKind::Call {
+            function,
+            arguments,
+        } => as_spot(call(setting, calls, *function, arguments, run)),
+        TypedKind::Intrinsic { call, arguments } => {
+            let given = match values(setting, calls, arguments, run) {
+                Ok(given) => given,
+                Err(halt) => return Err(halt),
+            };
+            let words = call_intrinsic(setting.alloc, *call, scalar(t), &given)?;
+            Ok(Spot::Value { words })
+        }
+    }
+}
+
+fn one_word(setting: &Setting<'_>, word: Word) -> Result<Spot, AllocError>
+    ensures { IfOk result (λ p. p ≡ spot.Value (word ∷ [])) }
+{
+    let words = Words::from_slice(setting.alloc, &[word])?;
+    Ok(Spot::Value { words })
+}
+
+/// How many records a launch has.
+fn record_count(setting: &Setting<'_>, state: &State) -> Result<Spot, AllocError>
+    ensures { IfOk result (λ p. p ≡ spot.Value (length state.now.world.inputs ∷ [])) }
+{
+    match u32::try_from(state.world.inputs.len()) {
+        Ok(count) => one_word(setting, count),
+        Err(_) => Err(AllocError),
+    }
+}
+
+fn as_spot(words: Result<Words, Halt>) -> Result<Spot, Halt>
+    ensures { result ≡ spot_result words }
+{
+    match words {
+        Ok(words) => Ok(Spot::Value { words }),
+        Err(halt) => Err(halt),
+    }
+}

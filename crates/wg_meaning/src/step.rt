@@ -1,0 +1,408 @@
+ghost use Rattle.std.specs.Prelude.{◌≡◌, ◌≤◌, ◌/◌, [], ◌∷◌, IfOk, map};
+ghost use Rattle.wg_tree.specs.declared.state.Store.TheVariants as store;
+ghost use Rattle.wg_tree.specs.declared.state.Spot.TheVariants as spot;
+ghost use Rattle.wg_tree.specs.Turns.{Done};
+ghost use Rattle.wg_tree.specs.ExprMeaning.{seen};
+ghost use Rattle.wg_tree.specs.StepMeaning.{assigned, updated, changed, raw_stored, exchanged, signedness, destination_of, maybe_word, maybe_spot, word_at, interlocked, step_does, steps_do, start_value, declared_as, all_declared, started};
+ghost use Rattle.wg_meaning.specs.Pieces.{setting_of};
+ghost use Rattle.wg_meaning.specs.Says.{Says, callees_in, raw_destination_of};
+
+use crate::calls::{Calls, Run};
+use crate::expr::{call, spot, value, word};
+use crate::halt::Halt;
+use crate::intrinsics::{greater, lesser};
+use crate::layout::size;
+use crate::operators::{combine_all, convert, scalar, step_all};
+use crate::place::{Setting, fetch, write};
+use crate::words::{word as word_of_list, zero_words};
+use sqlite_items::Items;
+use std::alloc::AllocError;
+use wg_tree::{
+    BinaryOperator, Destination, Interlocked, InterlockedForm, Scalar, Spot, State, StepOperator,
+    Store, TypeTree, TypedDeclarator, TypedExpr, TypedStart, TypedStep,
+};
+use wg_words::{Word, Words, add};
+
+fn assign<C: Calls>(
+    setting: &Setting<'_>,
+    calls: &C,
+    target: &TypedExpr,
+    e: &TypedExpr,
+    run: &mut Run,
+) -> Result<(), Halt>
+    ensures says { Says (assigned (setting_of setting.now) (seen (setting_of setting.now) (callees_in setting.now) target.now) (seen (setting_of setting.now) (callees_in setting.now) e.now) run.old.state run.old.turns) result run.new.state run.new.turns }
+    ensures turns { run.new.turns ≤ run.old.turns }
+{
+    let at = match spot(setting, calls, target, run) {
+        Ok(at) => at,
+        Err(halt) => return Err(halt),
+    };
+    let words = match value(setting, calls, e, run) {
+        Ok(words) => words,
+        Err(halt) => return Err(halt),
+    };
+    write(setting.alloc, &at, words.as_slice(), &mut run.state);
+    Ok(())
+}
+
+/// `target op= e`: the left side is read after the right side is known.
+fn update<C: Calls>(
+    setting: &Setting<'_>,
+    calls: &C,
+    target: &TypedExpr,
+    operator: BinaryOperator,
+    by: TypeTree,
+    e: &TypedExpr,
+    run: &mut Run,
+) -> Result<(), Halt>
+    ensures says { Says (updated (setting_of setting.now) (seen (setting_of setting.now) (callees_in setting.now) target.now) operator by (seen (setting_of setting.now) (callees_in setting.now) e.now) run.old.state run.old.turns) result run.new.state run.new.turns }
+    ensures turns { run.new.turns ≤ run.old.turns }
+{
+    let at = match spot(setting, calls, target, run) {
+        Ok(at) => at,
+        Err(halt) => return Err(halt),
+    };
+    let right = match value(setting, calls, e, run) {
+        Ok(words) => words,
+        Err(halt) => return Err(halt),
+    };
+    let left = fetch(setting, target.of, &at, &run.state)?;
+    let left = convert(setting.alloc, target.of, by, left.as_slice())?;
+    let both = combine_all(
+        setting.alloc,
+        operator,
+        scalar(by),
+        left.as_slice(),
+        right.as_slice(),
+    )?;
+    let words = convert(setting.alloc, by, target.of, both.as_slice())?;
+    write(setting.alloc, &at, words.as_slice(), &mut run.state);
+    Ok(())
+}
+
+/// `++` and `--`.
+fn change<C: Calls>(
+    setting: &Setting<'_>,
+    calls: &C,
+    target: &TypedExpr,
+    operator: StepOperator,
+    run: &mut Run,
+) -> Result<(), Halt>
+    ensures says { Says (changed (setting_of setting.now) (seen (setting_of setting.now) (callees_in setting.now) target.now) operator run.old.state run.old.turns) result run.new.state run.new.turns }
+    ensures turns { run.new.turns ≤ run.old.turns }
+{
+    let at = match spot(setting, calls, target, run) {
+        Ok(at) => at,
+        Err(halt) => return Err(halt),
+    };
+    let words = fetch(setting, target.of, &at, &run.state)?;
+    let words = step_all(setting.alloc, operator, scalar(target.of), words.as_slice())?;
+    write(setting.alloc, &at, words.as_slice(), &mut run.state);
+    Ok(())
+}
+
+/// A word of a raw buffer, by an address in bytes.
+fn raw_place(buffer: u32, address: Word) -> Spot
+    ensures { result ≡ spot.At (store.Buffer buffer) (address / 4) }
+{
+    Spot::At {
+        store: Store::Buffer { buffer },
+        from: u64::from(address / 4),
+    }
+}
+
+fn raw_store<C: Calls>(
+    setting: &Setting<'_>,
+    calls: &C,
+    buffer: u32,
+    address: &TypedExpr,
+    e: &TypedExpr,
+    run: &mut Run,
+) -> Result<(), Halt>
+    ensures says { Says (raw_stored (setting_of setting.now) buffer (seen (setting_of setting.now) (callees_in setting.now) address.now) (seen (setting_of setting.now) (callees_in setting.now) e.now) run.old.state run.old.turns) result run.new.state run.new.turns }
+    ensures turns { run.new.turns ≤ run.old.turns }
+{
+    let at = match word(setting, calls, address, run) {
+        Ok(at) => at,
+        Err(halt) => return Err(halt),
+    };
+    let words = match value(setting, calls, e, run) {
+        Ok(words) => words,
+        Err(halt) => return Err(halt),
+    };
+    write(
+        setting.alloc,
+        &raw_place(buffer, at),
+        words.as_slice(),
+        &mut run.state,
+    );
+    Ok(())
+}
+
+fn kind_of_words(signed: bool) -> Scalar
+    ensures { result ≡ signedness signed }
+{
+    if signed { Scalar::Int } else { Scalar::Uint }
+}
+
+/// What an interlocked form leaves in place of the old word.
+fn exchange(form: InterlockedForm, s: Scalar, old: Word, compare: Word, value: Word) -> Word
+    ensures { result ≡ exchanged form s old compare value }
+{
+    match form {
+        InterlockedForm::Add => add(old, value),
+        InterlockedForm::Min => lesser(s, old, value),
+        InterlockedForm::Max => greater(s, old, value),
+        InterlockedForm::And => old & value,
+        InterlockedForm::Or => old | value,
+        InterlockedForm::Xor => old ^ value,
+        InterlockedForm::Exchange => value,
+        InterlockedForm::CompareExchange | InterlockedForm::CompareStore => {
+            if old == compare { value } else { old }
+        }
+    }
+}
+
+fn destination<C: Calls>(
+    setting: &Setting<'_>,
+    calls: &C,
+    destination: &Destination,
+    run: &mut Run,
+) -> Result<Spot, Halt>
+    ensures says { Says (destination_of (setting_of setting.now) (callees_in setting.now) destination.now run.old.state run.old.turns) result run.new.state run.new.turns }
+    ensures turns { run.new.turns ≤ run.old.turns }
+{
+    match destination {
+        Destination::Scalar { target } => spot(setting, calls, target, run),
+        Destination::Raw { buffer, address } => raw_destination(
+            setting, calls, *buffer, address, run,
+        ),
+    }
+}
+
+fn raw_destination<C: Calls>(
+    setting: &Setting<'_>,
+    calls: &C,
+    buffer: u32,
+    address: &TypedExpr,
+    run: &mut Run,
+) -> Result<Spot, Halt>
+    ensures says { Says (raw_destination_of (setting_of setting.now) buffer (seen (setting_of setting.now) (callees_in setting.now) address.now) run.old.state run.old.turns) result run.new.state run.new.turns }
+    ensures turns { run.new.turns ≤ run.old.turns }
+{
+    match word(setting, calls, address, run) {
+        Ok(at) => Ok(raw_place(buffer, at)),
+        Err(halt) => Err(halt),
+    }
+}
+
+/// The word of an expression, 0 where there is none.
+pub fn optional_word<C: Calls>(
+    setting: &Setting<'_>,
+    calls: &C,
+    e: &Option<TypedExpr>,
+    run: &mut Run,
+) -> Result<Word, Halt>
+    ensures says { Says (maybe_word (setting_of setting.now) (callees_in setting.now) e.now run.old.state run.old.turns) result run.new.state run.new.turns }
+    ensures turns { run.new.turns ≤ run.old.turns }
+{
+    match e {
+        Some(e) => word(setting, calls, e, run),
+        None => Ok(0),
+    }
+}
+
+fn optional_spot<C: Calls>(
+    setting: &Setting<'_>,
+    calls: &C,
+    e: &Option<TypedExpr>,
+    run: &mut Run,
+) -> Result<Spot, Halt>
+    ensures says { Says (maybe_spot (setting_of setting.now) (callees_in setting.now) e.now run.old.state run.old.turns) result run.new.state run.new.turns }
+    ensures turns { run.new.turns ≤ run.old.turns }
+{
+    match e {
+        Some(e) => spot(setting, calls, e, run),
+        None => Ok(Spot::Nowhere),
+    }
+}
+
+/// One word where it stands; 0 outside.
+fn one_word(setting: &Setting<'_>, at: &Spot, state: &State) -> Result<Word, AllocError>
+    ensures { IfOk result (λ w. w ≡ word_at at.now state.now) }
+{
+    let bare = Setting {
+        structs: &[],
+        ..*setting
+    };
+    let words = fetch(&bare, TypeTree::Scalar { of: Scalar::Uint }, at, state)?;
+    Ok(word_of_list(words.as_slice(), 0))
+}
+
+/// An interlocked form: its places and words from left to right, then the change, then the old word.
+fn interlock<C: Calls>(
+    setting: &Setting<'_>,
+    calls: &C,
+    i: &Interlocked,
+    run: &mut Run,
+) -> Result<(), Halt>
+    ensures says { Says (interlocked (setting_of setting.now) (callees_in setting.now) i.now run.old.state run.old.turns) result run.new.state run.new.turns }
+    ensures turns { run.new.turns ≤ run.old.turns }
+{
+    let at = match destination(setting, calls, &i.destination, run) {
+        Ok(at) => at,
+        Err(halt) => return Err(halt),
+    };
+    let compare = match optional_word(setting, calls, &i.compare, run) {
+        Ok(compare) => compare,
+        Err(halt) => return Err(halt),
+    };
+    let value = match word(setting, calls, &i.value, run) {
+        Ok(value) => value,
+        Err(halt) => return Err(halt),
+    };
+    let back = match optional_spot(setting, calls, &i.old, run) {
+        Ok(back) => back,
+        Err(halt) => return Err(halt),
+    };
+    let old = one_word(setting, &at, &run.state)?;
+    let left = exchange(i.form, kind_of_words(i.signed), old, compare, value);
+    write(setting.alloc, &at, &[left], &mut run.state);
+    write(setting.alloc, &back, &[old], &mut run.state);
+    Ok(())
+}
+
+/// A part of a statement or of a `for` header.
+pub fn step<C: Calls>(
+    setting: &Setting<'_>,
+    calls: &C,
+    step: &TypedStep,
+    run: &mut Run,
+) -> Result<(), Halt>
+    ensures says { Says (step_does (setting_of setting.now) (callees_in setting.now) step.now run.old.state run.old.turns) result run.new.state run.new.turns }
+    ensures turns { run.new.turns ≤ run.old.turns }
+{
+    match step {
+        TypedStep::Evaluate { value: e } => match value(setting, calls, e, run) {
+            Ok(_) => Ok(()),
+            Err(halt) => Err(halt),
+        },
+        TypedStep::Call {
+            function,
+            arguments,
+        } => match call(setting, calls, *function, arguments, run) {
+            Ok(_) => Ok(()),
+            Err(halt) => Err(halt),
+        },
+        TypedStep::Assign { target, value } => assign(setting, calls, target, value, run),
+        TypedStep::Update {
+            target,
+            operator,
+            by,
+            value,
+        } => update(setting, calls, target, *operator, *by, value, run),
+        TypedStep::Change { target, operator } => change(setting, calls, target, *operator, run),
+        TypedStep::Store {
+            buffer,
+            address,
+            value,
+        } => raw_store(setting, calls, *buffer, address, value, run),
+        TypedStep::Interlocked { interlocked } => interlock(setting, calls, interlocked, run),
+    }
+}
+
+/// Steps, from left to right.
+pub fn steps<C: Calls>(
+    setting: &Setting<'_>,
+    calls: &C,
+    list: &Items<TypedStep>,
+    run: &mut Run,
+) -> Result<(), Halt>
+    ensures says { Says (steps_do (setting_of setting.now) (callees_in setting.now) list.now run.old.state run.old.turns) result run.new.state run.new.turns }
+    ensures turns { run.new.turns ≤ run.old.turns }
+{
+    for s in list.as_slice() {
+        match step(setting, calls, s, run) {
+            Ok(()) => (),
+            Err(halt) => return Err(halt),
+        }
+    }
+    Ok(())
+}
+
+/// What a local starts with: its start value, or zeros.
+fn start_words<C: Calls>(
+    setting: &Setting<'_>,
+    calls: &C,
+    t: TypeTree,
+    e: &Option<TypedExpr>,
+    run: &mut Run,
+) -> Result<Words, Halt>
+    ensures says { Says (start_value (setting_of setting.now) (callees_in setting.now) t e.now run.old.state run.old.turns) result run.new.state run.new.turns }
+    ensures turns { run.new.turns ≤ run.old.turns }
+{
+    match e {
+        Some(e) => value(setting, calls, e, run),
+        None => {
+            let count = size(setting.alloc, setting.structs, t)?;
+            Ok(zero_words(setting.alloc, count)?)
+        }
+    }
+}
+
+fn declare<C: Calls>(
+    setting: &Setting<'_>,
+    calls: &C,
+    d: &TypedDeclarator,
+    run: &mut Run,
+) -> Result<(), Halt>
+    ensures says { Says (declared_as (setting_of setting.now) (callees_in setting.now) d.now run.old.state run.old.turns) result run.new.state run.new.turns }
+    ensures turns { run.new.turns ≤ run.old.turns }
+{
+    let words = match start_words(setting, calls, d.of, &d.value, run) {
+        Ok(words) => words,
+        Err(halt) => return Err(halt),
+    };
+    let at = Spot::At {
+        store: Store::Local { local: d.local },
+        from: 0,
+    };
+    write(setting.alloc, &at, words.as_slice(), &mut run.state);
+    Ok(())
+}
+
+/// A declaration: its names from left to right.
+pub fn declare_all<C: Calls>(
+    setting: &Setting<'_>,
+    calls: &C,
+    list: &Items<TypedDeclarator>,
+    run: &mut Run,
+) -> Result<(), Halt>
+    ensures says { Says (all_declared (setting_of setting.now) (callees_in setting.now) list.now run.old.state run.old.turns) result run.new.state run.new.turns }
+    ensures turns { run.new.turns ≤ run.old.turns }
+{
+    for d in list.as_slice() {
+        match declare(setting, calls, d, run) {
+            Ok(()) => (),
+            Err(halt) => return Err(halt),
+        }
+    }
+    Ok(())
+}
+
+/// What a `for` begins with.
+pub fn start<C: Calls>(
+    setting: &Setting<'_>,
+    calls: &C,
+    start: &Option<TypedStart>,
+    run: &mut Run,
+) -> Result<(), Halt>
+    ensures says { Says (started (setting_of setting.now) (callees_in setting.now) start.now run.old.state run.old.turns) result run.new.state run.new.turns }
+    ensures turns { run.new.turns ≤ run.old.turns }
+{
+    match start {
+        None => Ok(()),
+        Some(TypedStart::Declare { declared }) => declare_all(setting, calls, declared, run),
+        Some(TypedStart::Steps { steps: list }) => steps(setting, calls, list, run),
+    }
+}

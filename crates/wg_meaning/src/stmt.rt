@@ -1,0 +1,362 @@
+ghost use Rattle.std.specs.Prelude.{◌≡◌, ◌≤◌, ◌<◌, OnOk, option_map};
+ghost use Rattle.wg_tree.specs.Turns.{Done, pure};
+ghost use Rattle.wg_tree.specs.ExprMeaning.{seen, word_of};
+ghost use Rattle.wg_tree.specs.StepMeaning.{steps_do};
+ghost use Rattle.wg_tree.specs.StmtMeaning.{loop as looped, test_of, of_group, is_group_handle, asks, completes, maybe_else, returned, does, body_does};
+ghost use Rattle.wg_meaning.specs.Flows.{entered, goes_on as flow_goes_on, loop_left, next_result};
+ghost use Rattle.wg_meaning.specs.Pieces.{setting_of};
+ghost use Rattle.wg_meaning.specs.Says.{Says, callees_in};
+
+use crate::calls::{Calls, Run};
+use crate::expr::{value, word};
+use crate::halt::Halt;
+use crate::place::{Setting, grant};
+use crate::requests::{Request, ask, close};
+use crate::step::{declare_all, optional_word, start as begin, step, steps};
+use sqlite_items::{Boxed, Items};
+use wg_tree::{Flow, TypedExpr, TypedStep, TypedStmt};
+use wg_words::{Word, Words};
+
+fn goes_on(end: &Flow) -> bool
+    ensures { result ≡ flow_goes_on end.now }
+{
+    match end {
+        Flow::Next => true,
+        Flow::Broke | Flow::Continued | Flow::Returned { .. } => false,
+    }
+}
+
+/// How a loop ends after its body, if it does.
+fn left(end: Flow) -> Option<Flow>
+    ensures { result ≡ loop_left end }
+{
+    match end {
+        Flow::Next | Flow::Continued => None,
+        Flow::Broke => Some(Flow::Next),
+        Flow::Returned { words } => Some(Flow::Returned { words }),
+    }
+}
+
+fn next(done: Result<(), Halt>) -> Result<Flow, Halt>
+    ensures { result ≡ next_result done }
+{
+    match done {
+        Ok(()) => Ok(Flow::Next),
+        Err(halt) => Err(halt),
+    }
+}
+
+/// A request or an increment: the element first, then the number.
+fn request<C: Calls>(
+    setting: &Setting<'_>,
+    calls: &C,
+    handle: Option<u32>,
+    output: u32,
+    element: &Option<TypedExpr>,
+    amount: &TypedExpr,
+    run: &mut Run,
+) -> Result<(), Halt>
+    ensures says { Says (asks (setting_of setting.now) (callees_in setting.now) handle output element.now amount.now run.old.state run.old.turns) result run.new.state run.new.turns }
+    ensures turns { run.new.turns ≤ run.old.turns }
+{
+    let at = match optional_word(setting, calls, element, run) {
+        Ok(at) => at,
+        Err(halt) => return Err(halt),
+    };
+    let count = match word(setting, calls, amount, run) {
+        Ok(count) => count,
+        Err(halt) => return Err(halt),
+    };
+    let request = Request {
+        handle,
+        lane: setting.lane,
+        output,
+        element: at,
+        amount: count,
+    };
+    ask(
+        setting.alloc,
+        setting.outputs,
+        request,
+        &mut run.state.world,
+    )?;
+    Ok(())
+}
+
+/// A group request or a group increment is lane 0's alone.
+fn group_request<C: Calls>(
+    setting: &Setting<'_>,
+    calls: &C,
+    handle: Option<u32>,
+    group: bool,
+    output: u32,
+    element: &Option<TypedExpr>,
+    amount: &TypedExpr,
+    run: &mut Run,
+) -> Result<(), Halt>
+    ensures says { Says (of_group (setting_of setting.now) group (asks (setting_of setting.now) (callees_in setting.now) handle output element.now amount.now) run.old.state run.old.turns) result run.new.state run.new.turns }
+    ensures turns { run.new.turns ≤ run.old.turns }
+{
+    if group && setting.lane != 0 {
+        return Ok(());
+    }
+    request(setting, calls, handle, output, element, amount, run)
+}
+
+fn is_group(setting: &Setting<'_>, handle: u32) -> bool
+    ensures { result ≡ is_group_handle (setting_of setting.now) handle }
+{
+    match setting.handles.get(handle as usize) {
+        None => false,
+        Some(h) => h.group,
+    }
+}
+
+/// `OutputComplete`; of a group handle it is lane 0's alone.
+fn complete(setting: &Setting<'_>, handle: u32, run: &mut Run)
+    ensures says { of_group (setting_of setting.now) (is_group_handle (setting_of setting.now) handle) (completes (setting_of setting.now) handle) run.old.state run.old.turns ≡ Done tt run.new.state run.new.turns }
+    ensures turns { run.new.turns ≡ run.old.turns }
+{
+    if is_group(setting, handle) && setting.lane != 0 {
+        return;
+    }
+    let grant = grant(setting, handle, &run.state);
+    close(setting.alloc, grant, &mut run.state.world);
+}
+
+fn give_back<C: Calls>(
+    setting: &Setting<'_>,
+    calls: &C,
+    e: &Option<TypedExpr>,
+    run: &mut Run,
+) -> Result<Flow, Halt>
+    ensures says { Says (returned (setting_of setting.now) (callees_in setting.now) e.now run.old.state run.old.turns) result run.new.state run.new.turns }
+    ensures turns { run.new.turns ≤ run.old.turns }
+{
+    match e {
+        None => Ok(Flow::Returned {
+            words: Words::new(setting.alloc),
+        }),
+        Some(e) => match value(setting, calls, e, run) {
+            Ok(words) => Ok(Flow::Returned { words }),
+            Err(halt) => Err(halt),
+        },
+    }
+}
+
+/// The test of a `for`; without one it goes on.
+fn test<C: Calls>(
+    setting: &Setting<'_>,
+    calls: &C,
+    e: &Option<TypedExpr>,
+    run: &mut Run,
+) -> Result<Word, Halt>
+    ensures says { Says (test_of (setting_of setting.now) (callees_in setting.now) e.now run.old.state run.old.turns) result run.new.state run.new.turns }
+    ensures turns { run.new.turns ≤ run.old.turns }
+{
+    match e {
+        None => Ok(1),
+        Some(e) => word(setting, calls, e, run),
+    }
+}
+
+/// Runs statements until one leaves them.
+#[cycle(stmt)]
+pub fn block<C: Calls>(
+    setting: &Setting<'_>,
+    calls: &C,
+    body: &[TypedStmt],
+    run: &mut Run,
+) -> Result<Flow, Halt>
+    ensures says { Says (body_does (setting_of setting.now) (callees_in setting.now) body.now run.old.state run.old.turns) result run.new.state run.new.turns }
+    ensures turns { run.new.turns ≤ run.old.turns }
+{
+    for s in body {
+        let end = match stmt(setting, calls, s, run) {
+            Ok(end) => end,
+            Err(halt) => return Err(halt),
+        };
+        if !goes_on(&end) {
+            return Ok(end);
+        }
+    }
+    Ok(Flow::Next)
+}
+
+/// Enters a loop's body, which takes a turn.
+#[cycle(stmt)]
+fn enter<C: Calls>(
+    setting: &Setting<'_>,
+    calls: &C,
+    body: &TypedStmt,
+    run: &mut Run,
+) -> Result<Flow, Halt>
+    ensures says { Says (entered (does (setting_of setting.now) (callees_in setting.now) body.now) run.old.state run.old.turns) result run.new.state run.new.turns }
+    ensures turns { run.new.turns ≤ run.old.turns }
+    ensures takes { OnOk result (run.new.turns < run.old.turns) }
+{
+    if run.turns == 0 {
+        return Err(Halt::Turns);
+    }
+    run.turns -= 1;
+    stmt(setting, calls, body, run)
+}
+
+#[cycle(stmt)]
+fn while_loop<C: Calls>(
+    setting: &Setting<'_>,
+    calls: &C,
+    body: &TypedStmt,
+    e: &TypedExpr,
+    run: &mut Run,
+) -> Result<Flow, Halt>
+    ensures says { Says (looped (word_of (setting_of setting.now) (seen (setting_of setting.now) (callees_in setting.now) e.now)) (does (setting_of setting.now) (callees_in setting.now) body.now) (pure tt) run.old.state run.old.turns) result run.new.state run.new.turns }
+    ensures turns { run.new.turns ≤ run.old.turns }
+{
+    'turns: loop {
+        let go = match word(setting, calls, e, run) {
+            Ok(go) => go,
+            Err(halt) => return Err(halt),
+        };
+        if go == 0 {
+            return Ok(Flow::Next);
+        }
+        let end = match enter(setting, calls, body, run) {
+            Ok(end) => end,
+            Err(halt) => return Err(halt),
+        };
+        match left(end) {
+            Some(end) => return Ok(end),
+            None => (),
+        }
+    }
+}
+
+#[cycle(stmt)]
+fn for_loop<C: Calls>(
+    setting: &Setting<'_>,
+    calls: &C,
+    body: &TypedStmt,
+    e: &Option<TypedExpr>,
+    list: &Items<TypedStep>,
+    run: &mut Run,
+) -> Result<Flow, Halt>
+    ensures says { Says (looped (test_of (setting_of setting.now) (callees_in setting.now) e.now) (does (setting_of setting.now) (callees_in setting.now) body.now) (steps_do (setting_of setting.now) (callees_in setting.now) list.now) run.old.state run.old.turns) result run.new.state run.new.turns }
+    ensures turns { run.new.turns ≤ run.old.turns }
+{
+    'turns: loop {
+        let go = match test(setting, calls, e, run) {
+            Ok(go) => go,
+            Err(halt) => return Err(halt),
+        };
+        if go == 0 {
+            return Ok(Flow::Next);
+        }
+        let end = match enter(setting, calls, body, run) {
+            Ok(end) => end,
+            Err(halt) => return Err(halt),
+        };
+        match left(end) {
+            Some(end) => return Ok(end),
+            None => (),
+        }
+        match steps(setting, calls, list, run) {
+            Ok(()) => (),
+            Err(halt) => return Err(halt),
+        }
+    }
+}
+
+#[cycle(stmt)]
+fn other_branch<C: Calls>(
+    setting: &Setting<'_>,
+    calls: &C,
+    other: &Option<Boxed<TypedStmt>>,
+    run: &mut Run,
+) -> Result<Flow, Halt>
+    ensures says { Says (maybe_else (option_map (does (setting_of setting.now) (callees_in setting.now)) other.now) run.old.state run.old.turns) result run.new.state run.new.turns }
+    ensures turns { run.new.turns ≤ run.old.turns }
+{
+    match other {
+        Some(s) => stmt(setting, calls, s.get(), run),
+        None => Ok(Flow::Next),
+    }
+}
+
+/// Runs one statement.
+#[cycle(stmt)]
+pub fn stmt<C: Calls>(
+    setting: &Setting<'_>,
+    calls: &C,
+    s: &TypedStmt,
+    run: &mut Run,
+) -> Result<Flow, Halt>
+    ensures says { Says (does (setting_of setting.now) (callees_in setting.now) s.now run.old.state run.old.turns) result run.new.state run.new.turns }
+    ensures turns { run.new.turns ≤ run.old.turns }
+{
+    match s {
+        TypedStmt::Block { body } => block(setting, calls, body.as_slice(), run),
+        TypedStmt::Empty | TypedStmt::Barrier { .. } => Ok(Flow::Next),
+        TypedStmt::Declare { declared } => next(declare_all(setting, calls, declared, run)),
+        TypedStmt::Request {
+            handle,
+            group,
+            output,
+            element,
+            amount,
+        } => next(group_request(
+            setting,
+            calls,
+            Some(*handle),
+            *group,
+            *output,
+            element,
+            amount,
+            run,
+        )),
+        TypedStmt::Increment {
+            group,
+            output,
+            element,
+            amount,
+        } => next(group_request(setting, calls, None, *group, *output, element, amount, run)),
+        TypedStmt::Complete { handle } => {
+            complete(setting, *handle, run);
+            Ok(Flow::Next)
+        }
+        TypedStmt::Step { step: part } => next(step(setting, calls, part, run)),
+        TypedStmt::Break => Ok(Flow::Broke),
+        TypedStmt::Continue => Ok(Flow::Continued),
+        TypedStmt::Return { value } => give_back(setting, calls, value, run),
+        TypedStmt::If {
+            test,
+            then,
+            other,
+            ..
+        } => {
+            let c = match word(setting, calls, test, run) {
+                Ok(c) => c,
+                Err(halt) => return Err(halt),
+            };
+            if c != 0 {
+                stmt(setting, calls, then.get(), run)
+            } else {
+                other_branch(setting, calls, other, run)
+            }
+        }
+        TypedStmt::While { test, body, .. } => while_loop(setting, calls, body.get(), test, run),
+        TypedStmt::For {
+            start,
+            test,
+            steps,
+            body,
+            ..
+        } => {
+            match begin(setting, calls, start, run) {
+                Ok(()) => (),
+                Err(halt) => return Err(halt),
+            }
+            for_loop(setting, calls, body.get(), test, steps, run)
+        }
+    }
+}

@@ -81,135 +81,137 @@ fn graph(alloc: Global) -> Result<Shape, AllocError>
     })
 }
 
+/// Texts with their first faults.
+const FAULTS: [(&[u8], ScriptFault); 33] = [
+    (b"", ScriptFault::Form { line: 1 }),
+    (b"script 2\n", ScriptFault::Form { line: 1 }),
+    (b"script 1\r", ScriptFault::Form { line: 1 }),
+    (b"\nscript 1\n", ScriptFault::Form { line: 1 }),
+    (b"script 1\nEntry Leaf 5\n", ScriptFault::Form { line: 2 }),
+    (b"script 1\n  // x\n", ScriptFault::Form { line: 2 }),
+    (
+        b"script 1\nentry Leaf 0x1g\n",
+        ScriptFault::Form { line: 2 },
+    ),
+    (
+        b"script 1\nentry Leaf 0x123456789\n",
+        ScriptFault::Form { line: 2 },
+    ),
+    (b"script 1\nentry Leaf 0x\n", ScriptFault::Form { line: 2 }),
+    (
+        b"script 1\nentry Leaf 4294967296\n",
+        ScriptFault::Form { line: 2 },
+    ),
+    (
+        b"script 1\nentry Leaf -2147483649\n",
+        ScriptFault::Form { line: 2 },
+    ),
+    (b"script 1\nentry Leaf +1\n", ScriptFault::Form { line: 2 }),
+    (
+        b"script 1\nentry Leaf[4294967296] 5\n",
+        ScriptFault::Form { line: 2 },
+    ),
+    (
+        b"script 1\nentry Leaf [0] 5\n",
+        ScriptFault::Form { line: 2 },
+    ),
+    (
+        b"script 1\nbuffer buf 4294967296\n",
+        ScriptFault::Form { line: 2 },
+    ),
+    (
+        b"script 1\nbuffer buf 2 1 2\n",
+        ScriptFault::Form { line: 2 },
+    ),
+    (b"script 1\nbuffer buf 0x2\n", ScriptFault::Form { line: 2 }),
+    (
+        b"script 1\n\n\nentry Leaves 5\n",
+        ScriptFault::NoNode { line: 4 },
+    ),
+    (
+        b"script 1\nentry Leaf[1] 5",
+        ScriptFault::NoNode { line: 2 },
+    ),
+    (
+        b"script 1\nentry Add 5\n",
+        ScriptFault::NotEntry { line: 2 },
+    ),
+    (
+        b"script 1\nentry Leaf\n",
+        ScriptFault::WordCount {
+            line: 2,
+            want: 1,
+            have: 0,
+        },
+    ),
+    (
+        b"script 1\nbuffer buf 1 : 5 6 7\n",
+        ScriptFault::WordCount {
+            line: 2,
+            want: 1,
+            have: 3,
+        },
+    ),
+    (
+        b"script 1\nentry Sheet 3 2 1\nentry Sheet 9 1 1\n",
+        ScriptFault::GridTooLarge { line: 3 },
+    ),
+    (
+        b"script 1\nbuffer Buf 1\n",
+        ScriptFault::NoBuffer { line: 2 },
+    ),
+    (
+        b"script 1\nbuffer buf 1\nbuffer buf 1\n",
+        ScriptFault::TwiceBuffer { line: 3 },
+    ),
+    (
+        b"script 1\nentry Flag 2 1\nentry Flag 1 2\n",
+        ScriptFault::BadBool { line: 3 },
+    ),
+    (
+        b"script 1\nbuffer buf 4194305\n",
+        ScriptFault::TooMany { line: 2 },
+    ),
+    (
+        b"script 1\nbuffer buf 4194304\nbuffer second 4194304\nbuffer third 4194304\nbuffer fourth 4194304\nbuffer fifth 4194304\n",
+        ScriptFault::TooMany { line: 6 },
+    ),
+    // Two faults in one line: the one of the least number.
+    (
+        b"script 1\nentry Sheet 9 1\n",
+        ScriptFault::WordCount {
+            line: 2,
+            want: 3,
+            have: 2,
+        },
+    ),
+    (
+        b"script 1\nbuffer Buf 1 : 5 6\n",
+        ScriptFault::WordCount {
+            line: 2,
+            want: 1,
+            have: 2,
+        },
+    ),
+    (
+        b"script 1\nbuffer Buf 4194305\n",
+        ScriptFault::NoBuffer { line: 2 },
+    ),
+    (
+        b"script 1\nbuffer buf 1\nbuffer buf 4194305\n",
+        ScriptFault::TwiceBuffer { line: 3 },
+    ),
+    // A fault of a greater number on an earlier line.
+    (
+        b"script 1\nentry Flag 0 2\nentry\n",
+        ScriptFault::BadBool { line: 2 },
+    ),
+];
+
 #[test]
 fn the_first_fault_is_named(rt: HostRuntime) -> Result<(), Fail> {
     let shape = graph(rt.alloc())?;
-    let rows: [(&[u8], ScriptFault); 33] = [
-        (b"", ScriptFault::Form { line: 1 }),
-        (b"script 2\n", ScriptFault::Form { line: 1 }),
-        (b"script 1\r", ScriptFault::Form { line: 1 }),
-        (b"\nscript 1\n", ScriptFault::Form { line: 1 }),
-        (b"script 1\nEntry Leaf 5\n", ScriptFault::Form { line: 2 }),
-        (b"script 1\n  // x\n", ScriptFault::Form { line: 2 }),
-        (
-            b"script 1\nentry Leaf 0x1g\n",
-            ScriptFault::Form { line: 2 },
-        ),
-        (
-            b"script 1\nentry Leaf 0x123456789\n",
-            ScriptFault::Form { line: 2 },
-        ),
-        (b"script 1\nentry Leaf 0x\n", ScriptFault::Form { line: 2 }),
-        (
-            b"script 1\nentry Leaf 4294967296\n",
-            ScriptFault::Form { line: 2 },
-        ),
-        (
-            b"script 1\nentry Leaf -2147483649\n",
-            ScriptFault::Form { line: 2 },
-        ),
-        (b"script 1\nentry Leaf +1\n", ScriptFault::Form { line: 2 }),
-        (
-            b"script 1\nentry Leaf[4294967296] 5\n",
-            ScriptFault::Form { line: 2 },
-        ),
-        (
-            b"script 1\nentry Leaf [0] 5\n",
-            ScriptFault::Form { line: 2 },
-        ),
-        (
-            b"script 1\nbuffer buf 4294967296\n",
-            ScriptFault::Form { line: 2 },
-        ),
-        (
-            b"script 1\nbuffer buf 2 1 2\n",
-            ScriptFault::Form { line: 2 },
-        ),
-        (b"script 1\nbuffer buf 0x2\n", ScriptFault::Form { line: 2 }),
-        (
-            b"script 1\n\n\nentry Leaves 5\n",
-            ScriptFault::NoNode { line: 4 },
-        ),
-        (
-            b"script 1\nentry Leaf[1] 5",
-            ScriptFault::NoNode { line: 2 },
-        ),
-        (
-            b"script 1\nentry Add 5\n",
-            ScriptFault::NotEntry { line: 2 },
-        ),
-        (
-            b"script 1\nentry Leaf\n",
-            ScriptFault::WordCount {
-                line: 2,
-                want: 1,
-                have: 0,
-            },
-        ),
-        (
-            b"script 1\nbuffer buf 1 : 5 6 7\n",
-            ScriptFault::WordCount {
-                line: 2,
-                want: 1,
-                have: 3,
-            },
-        ),
-        (
-            b"script 1\nentry Sheet 3 2 1\nentry Sheet 9 1 1\n",
-            ScriptFault::GridTooLarge { line: 3 },
-        ),
-        (
-            b"script 1\nbuffer Buf 1\n",
-            ScriptFault::NoBuffer { line: 2 },
-        ),
-        (
-            b"script 1\nbuffer buf 1\nbuffer buf 1\n",
-            ScriptFault::TwiceBuffer { line: 3 },
-        ),
-        (
-            b"script 1\nentry Flag 2 1\nentry Flag 1 2\n",
-            ScriptFault::BadBool { line: 3 },
-        ),
-        (
-            b"script 1\nbuffer buf 4194305\n",
-            ScriptFault::TooMany { line: 2 },
-        ),
-        (
-            b"script 1\nbuffer buf 4194304\nbuffer second 4194304\nbuffer third 4194304\nbuffer fourth 4194304\nbuffer fifth 4194304\n",
-            ScriptFault::TooMany { line: 6 },
-        ),
-        // Two faults in one line: the one of the least number.
-        (
-            b"script 1\nentry Sheet 9 1\n",
-            ScriptFault::WordCount {
-                line: 2,
-                want: 3,
-                have: 2,
-            },
-        ),
-        (
-            b"script 1\nbuffer Buf 1 : 5 6\n",
-            ScriptFault::WordCount {
-                line: 2,
-                want: 1,
-                have: 2,
-            },
-        ),
-        (
-            b"script 1\nbuffer Buf 4194305\n",
-            ScriptFault::NoBuffer { line: 2 },
-        ),
-        (
-            b"script 1\nbuffer buf 1\nbuffer buf 4194305\n",
-            ScriptFault::TwiceBuffer { line: 3 },
-        ),
-        // A fault of a greater number on an earlier line.
-        (
-            b"script 1\nentry Flag 0 2\nentry\n",
-            ScriptFault::BadBool { line: 2 },
-        ),
-    ];
-    for (text, fault) in rows {
+    for (text, fault) in FAULTS {
         let found = read_lines(rt.alloc(), text, &shape).err();
         assert_eq!(rt; found, Some(fault));
     }

@@ -1,6 +1,6 @@
 -- What the attributes of a function and their arguments tell (DirectX-Specs, Work Graphs, shader function attributes; that names of attributes
 -- are compared without regard to case is own).
-use Rattle.std.specs.Prelude.{ℕ, ◌*◌, Bool, false, not, ◌&&◌, ◌||◌, nat_lt, nat_le, if◌then◌else◌, is_some, List, [], ◌∷◌, codes, Option, Some, None}
+use Rattle.std.specs.Prelude.{ℕ, ◌*◌, Bool, false, not, ◌&&◌, ◌||◌, nat_lt, nat_le, if◌then◌else◌, is_some, List, [], ◌∷◌, codes, Option, Some, None, true}
 use Prim.Native.String.{String}
 use Rattle.std.specs.Str.{bytes_eq}
 use Rattle.wg_tree.specs.Maybe.{◌>>=◌, where_true}
@@ -12,8 +12,10 @@ use Rattle.wg_tree.specs.declared.typed_stmt.TypedArgument.{TypedArgument}
 use Rattle.wg_tree.specs.declared.typed_stmt.TypedAttribute.{TypedAttribute}
 
 abbrev pub is_text : String → ArgumentValue → Bool
+is_text word (argument.Number v) = false
 is_text word (argument.Text bytes) = bytes_eq (codes word) bytes
-is_text word _ = false
+is_text word (argument.Parameter number) = false
+is_text word argument.Other = false
 
 abbrev pub is_one_text : String → List TypedArgument → Bool
 is_one_text word (a ∷ []) = is_text word a.value
@@ -35,7 +37,9 @@ is_positive v = nat_lt 0 v.value && not (v.signed && nat_le 2147483648 v.value)
 
 abbrev pub count_in : ArgumentValue → Option ℕ
 count_in (argument.Number v) = where_true (is_positive v) v.value
-count_in _ = None
+count_in (argument.Text bytes) = None
+count_in (argument.Parameter number) = None
+count_in argument.Other = None
 
 abbrev pub product : List TypedArgument → Option ℕ
 product (x ∷ y ∷ z ∷ []) = do
@@ -64,13 +68,15 @@ pub data Mode : Type 0 where
 abbrev pub mode_names : List (String × Mode)
 mode_names = ("broadcasting", broadcasting) ∷ ("coalescing", coalescing) ∷ ("thread", thread) ∷ []
 
+abbrev pub named_by : ArgumentValue → Option Mode
+named_by (argument.Number v) = None
+named_by (argument.Text bytes) = at_name mode_names bytes
+named_by (argument.Parameter number) = None
+named_by argument.Other = None
+
 -- the mode that one string names
 abbrev pub mode_named : List TypedArgument → Option Mode
 mode_named (a ∷ []) = named_by a.value
-  where
-    named_by : ArgumentValue → Option Mode
-    named_by (argument.Text bytes) = at_name mode_names bytes
-    named_by _ = None
 mode_named _ = None
 
 -- The launch mode of a node, by its first `NodeLaunch`. It is open where that is missing or names no mode; own.
@@ -80,3 +86,23 @@ mode_of attributes = first_called "NodeLaunch" attributes >>= (λ a. mode_named 
 -- an attribute of the name is there
 abbrev pub has : String → List TypedAttribute → Bool
 has word attributes = is_some (first_called word attributes)
+
+-- whether a mode that is known passes; where the mode is open no rule on it is tried
+abbrev pub in_mode : (Mode → Bool) → Option Mode → Bool
+in_mode test None = false
+in_mode test (Some mode) = test mode
+
+abbrev pub is_broadcasting : Mode → Bool
+is_broadcasting broadcasting = true
+is_broadcasting coalescing = false
+is_broadcasting thread = false
+
+abbrev pub is_coalescing : Mode → Bool
+is_coalescing broadcasting = false
+is_coalescing coalescing = true
+is_coalescing thread = false
+
+abbrev pub is_thread : Mode → Bool
+is_thread broadcasting = false
+is_thread coalescing = false
+is_thread thread = true

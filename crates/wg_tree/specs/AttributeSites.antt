@@ -1,6 +1,7 @@
 -- The sites of the rules of attributes: each attribute at its position, each node, and each parameter of a node (DirectX-Specs, Work Graphs,
 -- shader function attributes, node inputs and node outputs).
-use Rattle.std.specs.Prelude.{ℕ, ◌+◌, Bool, true, false, if◌then◌else◌, List, [], ◌∷◌, ◌++◌, map, slice_get, Option, Some, None}
+use Rattle.std.specs.Prelude.{ℕ, ◌+◌, Bool, true, false, if◌then◌else◌, List, [], ◌∷◌, ◌++◌, map, slice_get, Option, Some, None, unwrap_or}
+use Rattle.wg_tree.specs.Maybe.{where_true}
 use Rattle.wg_tree.specs.SiteTree.{Sites, nowhere, only, ◌&◌, all_sites}
 use Rattle.wg_tree.specs.AttributeArguments.{Mode, mode_of, is_entry}
 use Rattle.wg_tree.specs.declared.stmt.ObjectWord.{ObjectWord}
@@ -79,33 +80,29 @@ kind_of (parameter_type.Object place word record_type) = object_kind word
 
 -- ---- the fields of a node's input record
 
+abbrev pub fields_at : Option TypedStruct → List TypedField
+fields_at None = []
+fields_at (Some s) = s.fields
+
 abbrev pub fields_of : List TypedStruct → Option ℕ → List TypedField
 fields_of structs None = []
 fields_of structs (Some number) = fields_at (slice_get structs number)
-  where
-    fields_at : Option TypedStruct → List TypedField
-    fields_at None = []
-    fields_at (Some s) = s.fields
+
+abbrev pub is_input : Kind → Bool
+is_input a_value = false
+is_input (an_input word) = true
+is_input (an_output array) = false
+is_input a_handle = false
 
 -- the fields of the record type, where this is an input
 abbrev pub input_fields : List TypedStruct → TypedParameterType → Option (List TypedField)
 input_fields structs (parameter_type.Value of) = None
-input_fields structs (parameter_type.Object place word record_type) = by_kind (object_kind word)
-  where
-    by_kind : Kind → Option (List TypedField)
-    by_kind (an_input word) = Some (fields_of structs record_type)
-    by_kind a_value = None
-    by_kind (an_output array) = None
-    by_kind a_handle = None
+input_fields structs (parameter_type.Object place word record_type) = where_true (is_input (object_kind word)) (fields_of structs record_type)
 
 -- the fields of the first input's record type; a node without an input has records without fields
 abbrev pub record_fields : List TypedStruct → List TypedParameter → List TypedField
 record_fields structs [] = []
-record_fields structs (p ∷ rest) = first_or (input_fields structs p.of) (record_fields structs rest)
-  where
-    first_or : Option (List TypedField) → List TypedField → List TypedField
-    first_or (Some fields) later = fields
-    first_or None later = later
+record_fields structs (p ∷ rest) = unwrap_or (input_fields structs p.of) (record_fields structs rest)
 
 -- ---- sites
 

@@ -56,8 +56,8 @@ map_layer f (Expr-F.Choice test a b) = Expr-F.Choice (f test) (f a) (f b)
 
 -- ---- parts
 
--- what an expression is as an argument of `Barrier`: operands of `|`, each a name, the number 0, or another expression, which has
--- no type or has one
+-- what an expression is as an argument of `Barrier`: operands of `|`, each a name, the number 0, or another expression, in which a
+-- rule is broken (false) or none is; an output call or a syncing barrier there breaks one
 pub data Piece : Type 0 where
   word : Named → Piece
   zero_word : Piece

@@ -1,21 +1,20 @@
 -- What the rules of types have in common: places, parts that stand as values, and parts that have a type.
-use Rattle.std.specs.Prelude.{Bool, true, false, not, ◌&&◌, ◌||◌, if◌then◌else◌, is_some, List, [], ◌∷◌, ◌++◌, Option, Some, None}
+use Rattle.std.specs.Prelude.{◌==◌, Bool, true, false, not, ◌&&◌, if◌then◌else◌, is_some, List, [], ◌∷◌, ◌++◌, length, Option, Some, None}
 use Rattle.wg_words.specs.declared.place.Place.{Place}
+use Rattle.wg_tree.specs.SiteTree.{at_if}
 use Rattle.wg_tree.specs.Scope.{Context}
-use Rattle.wg_tree.specs.Layers.{Layer, FormLayer, member, method, index, LinkLayer, Part, typed_part}
-use Rattle.wg_tree.specs.TypingCalls.{Callee, builtin, barrier_of, callee, any_broken}
-use Rattle.wg_tree.specs.TypingExpr.{Along, at_typed, at_other}
+use Rattle.wg_tree.specs.Layers.{Layer, FormLayer, member, method, index, LinkLayer, Part, typed_part, TypedPart}
+use Rattle.wg_tree.specs.TypingCallee.{Callee, plain, entry, itself, builtin, broken, unknown, on_numbers, interlocked, levels, barrier, barrier_of, callee}
+use Rattle.wg_tree.specs.TypingActs.{is_output_act, is_syncing, is_plain_act}
+use Rattle.wg_tree.specs.TypingBarrier.{any_broken, unknown_words, is_alone}
+use Rattle.wg_tree.specs.TypingForms.{Along, at_typed, at_other}
 use Rattle.wg_tree.specs.declared.expr.Named.{Named}
 use Rattle.wg_tree.specs.declared.expr.Expr.TheOpen.{Expr-F}
 use Rattle.wg_tree.specs.declared.scope.Act.{Act}
-use Rattle.wg_tree.specs.declared.scope.Act.TheVariants as act
 use Rattle.wg_tree.specs.declared.scope.Value.{Value}
 use Rattle.wg_tree.specs.declared.scope.Value.TheVariants as value
-
--- the place, where the test holds
-abbrev pub at_if : Bool → Place → List Place
-at_if true p = p ∷ []
-at_if false p = []
+use Rattle.wg_tree.specs.Conversions.{fits}
+use Rattle.wg_tree.specs.declared.types.TypeTree.{TypeTree}
 
 abbrev pub is_typed : Part → Bool
 is_typed p = is_some (typed_part p)
@@ -61,8 +60,16 @@ links_parts (l ∷ rest) = l.operand ∷ links_parts rest
 
 -- the arguments of `Barrier` are no values
 abbrev pub argument_parts : Callee → List Part → List Part
+argument_parts (plain number result parameters chain) parts = parts
+argument_parts entry parts = parts
+argument_parts itself parts = parts
+argument_parts (builtin (on_numbers i)) parts = parts
+argument_parts (builtin (interlocked f)) parts = parts
+argument_parts (builtin levels) parts = parts
+argument_parts (builtin (barrier syncs)) parts = parts
 argument_parts (builtin barrier_of) parts = []
-argument_parts _ parts = parts
+argument_parts broken parts = parts
+argument_parts unknown parts = parts
 
 -- the parts of an expression that have to be values; brackets hand on what is in them, and an object may stand before forms
 abbrev pub value_parts : Context → Layer Part → List Part
@@ -81,26 +88,6 @@ value_parts c (Expr-F.Chain first rest) = first ∷ links_parts rest
 value_parts c (Expr-F.Choice test a b) = test ∷ a ∷ b ∷ []
 
 -- ---- what stands as a value and is none
-
--- an output call
-abbrev pub is_output_act : Act → Bool
-is_output_act (act.Step s) = false
-is_output_act (act.Barrier syncs) = false
-is_output_act (act.Request group output number element amount) = true
-is_output_act (act.Increment group output element amount) = true
-is_output_act (act.Complete handle) = true
-
--- a barrier that syncs
-abbrev pub is_syncing : Act → Bool
-is_syncing (act.Step s) = false
-is_syncing (act.Barrier syncs) = syncs
-is_syncing (act.Request group output number element amount) = false
-is_syncing (act.Increment group output element amount) = false
-is_syncing (act.Complete handle) = false
-
--- a call without a value that is neither
-abbrev pub is_plain_act : Act → Bool
-is_plain_act a = not (is_output_act a || is_syncing a)
 
 -- an object, a string, or a call without a value: a mismatch at the place of its first token
 abbrev pub no_value_at : Place → Option Value → List Place
@@ -144,3 +131,35 @@ before_form rule (at_other (value.Text bytes)) f = rule (Some (value.Text bytes)
 abbrev pub all_pieces_whole : Context → List Part → Bool
 all_pieces_whole c [] = true
 all_pieces_whole c (p ∷ rest) = not (any_broken c p.pieces) && all_pieces_whole c rest
+
+-- the words of the two arguments that name nothing of a barrier
+abbrev pub unknown_flags : Context → List Part → List Named
+unknown_flags c (m ∷ s ∷ []) = unknown_words c (is_alone m.pieces) m.pieces ++ unknown_words c false s.pieces
+unknown_flags c parts = []
+
+-- arguments of a barrier in which no rule is broken
+abbrev pub flags_whole : Context → List Part → Bool
+flags_whole c parts = all_pieces_whole c parts && (length (unknown_flags c parts) == 0)
+
+-- ---- parts that fail a test on their type
+
+-- a place for a part that has a type and fails a test on it
+abbrev pub failing : (TypedPart → Bool) → Option TypedPart → List Place
+failing test (Some t) = at_if (not (test t)) t.place
+failing test None = []
+
+abbrev pub each_failing : (TypedPart → Bool) → List Part → List Place
+each_failing test parts = each_part (λ p. failing test (typed_part p)) parts
+
+abbrev pub maybe_failing : (TypedPart → Bool) → Option Part → List Place
+maybe_failing test None = []
+maybe_failing test (Some p) = failing test (typed_part p)
+
+-- a value that does not convert to the type
+abbrev pub unfit : TypeTree → Part → List Place
+unfit goal p = failing (λ t. fits t.of goal) (typed_part p)
+
+abbrev pub unfit_all : List TypeTree → List Part → List Place
+unfit_all [] parts = []
+unfit_all (t ∷ types) [] = []
+unfit_all (t ∷ types) (p ∷ parts) = unfit t p ++ unfit_all types parts

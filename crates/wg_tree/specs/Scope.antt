@@ -27,7 +27,15 @@ look name (d ∷ rest) = option_or (look name rest) (where_true (bytes_eq d.name
 
 abbrev pub constant_if : Option Meant → Option ConstValue
 constant_if (Some (meant.Constant of words value)) = value
-constant_if _ = None
+constant_if (Some (meant.Struct number)) = None
+constant_if (Some (meant.Shared variable of)) = None
+constant_if (Some (meant.Local local of constant)) = None
+constant_if (Some (meant.Parameter parameter of)) = None
+constant_if (Some (meant.Object object)) = None
+constant_if (Some (meant.Function number is_entry result parameters chain)) = None
+constant_if (Some meant.Itself) = None
+constant_if (Some meant.Broken) = None
+constant_if None = None
 
 -- the values of the names that may stand in a `const`
 abbrev pub known_names : List Declared → Known
@@ -35,7 +43,15 @@ known_names names name = constant_if (look name names)
 
 abbrev pub struct_if : Option Meant → Option TypeTree
 struct_if (Some (meant.Struct number)) = Some (type.Struct number)
-struct_if _ = None
+struct_if (Some (meant.Constant of words known)) = None
+struct_if (Some (meant.Shared variable of)) = None
+struct_if (Some (meant.Local local of constant)) = None
+struct_if (Some (meant.Parameter parameter of)) = None
+struct_if (Some (meant.Object object)) = None
+struct_if (Some (meant.Function number is_entry result parameters chain)) = None
+struct_if (Some meant.Itself) = None
+struct_if (Some meant.Broken) = None
+struct_if None = None
 
 -- the type that a type's words name
 abbrev pub named_type : List Declared → TypeName → Option TypeTree

@@ -6,6 +6,7 @@ use Rattle.wg_tree.specs.Layers.{Layer, Part}
 use Rattle.wg_tree.specs.declared.expr.Named.{Named}
 use Rattle.wg_tree.specs.declared.expr.Expr.{Expr}
 use Rattle.wg_tree.specs.declared.expr.TypeName.{TypeName}
+use Rattle.wg_tree.specs.declared.scope.Value.{Value}
 use Rattle.wg_tree.specs.declared.stmt.ObjectType.{ObjectType}
 use Rattle.wg_tree.specs.declared.stmt.Step.{Step}
 use Rattle.wg_tree.specs.declared.types.ConstValue.{ConstValue}
@@ -29,6 +30,8 @@ pub data Event : Type 0 where
 pub data Site : Type 0 where
   -- one layer of an expression, at its first token
   AtExpr : Context → Place → Layer Part → Site
+  -- an expression among a barrier's arguments that is no flag, and what it is
+  AtFlag : Option Value → Site
   -- an expression that has to convert to a type, where that is known: a start value, a condition, the value of a constant
   AtWanted : Context → Option TypeTree → Expr → Site
   -- an expression where a `const` is wanted

@@ -4,9 +4,17 @@ use Rattle.wg_words.specs.declared.place.Place.{Place}
 use Rattle.wg_tree.specs.SiteTree.{Sites, Among, In}
 use Rattle.wg_tree.specs.Sites.{Site}
 use Rattle.wg_tree.specs.TypingText.{no_text, items_sites, items_after, text_tree}
-use Rattle.wg_tree.specs.RulesNames.{unknown_name, repeated, recursion, out_of_profile}
-use Rattle.wg_tree.specs.RulesTypes.{mismatch, not_assignable, wrong_arity}
-use Rattle.wg_tree.specs.RulesPlaces.{limit_passed, bad_barrier, bad_output_call, not_completed}
+use Rattle.wg_tree.specs.RulesUnknownName.{unknown_name}
+use Rattle.wg_tree.specs.RulesRepeated.{repeated}
+use Rattle.wg_tree.specs.RulesRecursion.{recursion}
+use Rattle.wg_tree.specs.RulesOutOfProfile.{out_of_profile}
+use Rattle.wg_tree.specs.RulesMismatch.{mismatch}
+use Rattle.wg_tree.specs.RulesNotAssignable.{not_assignable}
+use Rattle.wg_tree.specs.RulesArity.{wrong_arity}
+use Rattle.wg_tree.specs.RulesLimit.{limit_passed}
+use Rattle.wg_tree.specs.RulesBarrier.{bad_barrier}
+use Rattle.wg_tree.specs.RulesOutputCall.{bad_output_call}
+use Rattle.wg_tree.specs.RulesNotCompleted.{not_completed}
 use Rattle.wg_tree.specs.declared.item.Source.{Source}
 use Rattle.wg_tree.specs.declared.typed.Typed.{Typed}
 

@@ -7,197 +7,210 @@ use wg_words::{Name, Place};
 
 const HERE: Place = Place { line: 1, column: 1 };
 
-fn number(value: u32) -> Expr {
+/// An operand of a `const`.
+#[derive(Clone, Copy)]
+enum Operand {
+    Int(u32),
+    Uint(u32),
+    Prefix(PrefixOperator, u32),
+    Name(&'static [u8]),
+    Truth,
+}
+
+fn number(value: u32, unsigned: bool) -> Expr {
     Expr::Number {
         place: HERE,
         value,
-        unsigned: false,
+        unsigned,
     }
 }
 
-fn unsigned(value: u32) -> Expr {
-    Expr::Number {
-        place: HERE,
-        value,
-        unsigned: true,
-    }
-}
-
-fn name(alloc: Global, bytes: &[u8]) -> Result<Expr, AllocError> {
-    Ok(Expr::Name {
-        name: Named {
-            name: Name::from_slice(alloc, bytes)?,
+fn spelled(alloc: Global, of: Operand) -> Result<Expr, AllocError> {
+    match of {
+        Operand::Int(value) => Ok(number(value, false)),
+        Operand::Uint(value) => Ok(number(value, true)),
+        Operand::Prefix(operator, value) => Ok(Expr::Prefix {
             place: HERE,
-        },
-    })
+            operator,
+            operand: Boxed::new(alloc, number(value, false))?,
+        }),
+        Operand::Name(bytes) => Ok(Expr::Name {
+            name: Named {
+                name: Name::from_slice(alloc, bytes)?,
+                place: HERE,
+            },
+        }),
+        Operand::Truth => Ok(Expr::Truth {
+            place: HERE,
+            value: true,
+        }),
+    }
 }
 
-fn prefix(alloc: Global, operator: PrefixOperator, operand: Expr) -> Result<Expr, AllocError> {
-    Ok(Expr::Prefix {
-        place: HERE,
-        operator,
-        operand: Boxed::new(alloc, operand)?,
-    })
-}
-
-fn two(
+fn chain(
     alloc: Global,
-    first: Expr,
-    operator: BinaryOperator,
-    operand: Expr,
+    first: Operand,
+    links: &[(BinaryOperator, Operand)],
 ) -> Result<Expr, AllocError> {
+    let first = spelled(alloc, first)?;
+    if links.is_empty() {
+        return Ok(first);
+    }
     let mut rest = Items::new(alloc);
-    rest.push(Link {
-        operator,
-        place: HERE,
-        operand,
-    })?;
+    for &(operator, right) in links {
+        let operand = spelled(alloc, right)?;
+        rest.push(Link {
+            operator,
+            place: HERE,
+            operand,
+        })?;
+    }
     Ok(Expr::Chain {
         first: Boxed::new(alloc, first)?,
         rest,
     })
 }
 
-fn three(
-    alloc: Global,
-    first: Expr,
-    operator: BinaryOperator,
-    second: Expr,
-    third: Expr,
-) -> Result<Expr, AllocError> {
-    let mut rest = Items::new(alloc);
-    rest.push(Link {
-        operator,
-        place: HERE,
-        operand: second,
-    })?;
-    rest.push(Link {
-        operator,
-        place: HERE,
-        operand: third,
-    })?;
-    Ok(Expr::Chain {
-        first: Boxed::new(alloc, first)?,
-        rest,
-    })
+/// The value of a `const`, if it has one.
+#[derive(Clone, Copy)]
+enum Wanted {
+    Int(u32),
+    Uint(u32),
+    Nothing,
 }
 
-fn choice(alloc: Global, test: Expr, then: Expr, other: Expr) -> Result<Expr, AllocError> {
-    Ok(Expr::Choice {
-        test: Boxed::new(alloc, test)?,
-        then: Boxed::new(alloc, then)?,
-        other: Boxed::new(alloc, other)?,
-    })
+fn wanted_value(of: Wanted) -> Option<ConstValue> {
+    match of {
+        Wanted::Int(value) => Some(ConstValue {
+            value,
+            signed: true,
+        }),
+        Wanted::Uint(value) => Some(ConstValue {
+            value,
+            signed: false,
+        }),
+        Wanted::Nothing => None,
+    }
 }
 
-fn int(value: u32) -> Option<ConstValue> {
-    Some(ConstValue {
-        value,
+fn one_known(alloc: Global) -> Result<Constants, AllocError> {
+    let mut known = Constants::new(alloc);
+    let five = ConstValue {
+        value: 5,
         signed: true,
-    })
+    };
+    known.add(Name::from_slice(alloc, b"A")?, five)?;
+    Ok(known)
 }
 
-fn uint(value: u32) -> Option<ConstValue> {
-    Some(ConstValue {
-        value,
-        signed: false,
-    })
-}
+/// A first operand, the operators after it, and the value, by hand from the rules of HLSL on `int` and `uint`.
+type Row = (Operand, &'static [(BinaryOperator, Operand)], Wanted);
 
-// Worked out by hand from the rules of HLSL's operators on `int` and `uint`.
+const ROWS: [Row; 19] = [
+    (Operand::Int(0x7fff_ffff), &[], Wanted::Int(0x7fff_ffff)),
+    (Operand::Int(0x8000_0000), &[], Wanted::Uint(0x8000_0000)),
+    (Operand::Uint(7), &[], Wanted::Uint(7)),
+    (Operand::Name(b"A"), &[], Wanted::Int(5)),
+    (Operand::Name(b"B"), &[], Wanted::Nothing),
+    (
+        Operand::Int(1),
+        &[(BinaryOperator::Subtract, Operand::Int(2))],
+        Wanted::Int(0xffff_ffff),
+    ),
+    (
+        Operand::Uint(1),
+        &[(BinaryOperator::Subtract, Operand::Int(2))],
+        Wanted::Uint(0xffff_ffff),
+    ),
+    (
+        Operand::Int(10),
+        &[
+            (BinaryOperator::Subtract, Operand::Int(3)),
+            (BinaryOperator::Subtract, Operand::Int(2)),
+        ],
+        Wanted::Int(5),
+    ),
+    (
+        Operand::Prefix(PrefixOperator::Minus, 7),
+        &[(BinaryOperator::Divide, Operand::Int(2))],
+        Wanted::Int(0xffff_fffd),
+    ),
+    (
+        Operand::Prefix(PrefixOperator::Minus, 7),
+        &[(BinaryOperator::Divide, Operand::Uint(2))],
+        Wanted::Uint(0x7fff_fffc),
+    ),
+    (
+        Operand::Int(7),
+        &[(BinaryOperator::Remainder, Operand::Int(0))],
+        Wanted::Int(0xffff_ffff),
+    ),
+    (
+        Operand::Int(1),
+        &[(BinaryOperator::ShiftLeft, Operand::Int(33))],
+        Wanted::Int(2),
+    ),
+    (
+        Operand::Prefix(PrefixOperator::Minus, 8),
+        &[(BinaryOperator::ShiftRight, Operand::Uint(1))],
+        Wanted::Int(0xffff_fffc),
+    ),
+    (
+        Operand::Int(2),
+        &[(
+            BinaryOperator::Less,
+            Operand::Prefix(PrefixOperator::Minus, 1),
+        )],
+        Wanted::Int(0),
+    ),
+    (
+        Operand::Uint(2),
+        &[(
+            BinaryOperator::Less,
+            Operand::Prefix(PrefixOperator::Minus, 1),
+        )],
+        Wanted::Int(1),
+    ),
+    (
+        Operand::Uint(2),
+        &[(BinaryOperator::And, Operand::Int(4))],
+        Wanted::Int(1),
+    ),
+    (Operand::Prefix(PrefixOperator::Not, 5), &[], Wanted::Int(0)),
+    (
+        Operand::Prefix(PrefixOperator::Complement, 0),
+        &[],
+        Wanted::Int(0xffff_ffff),
+    ),
+    (
+        Operand::Int(1),
+        &[(BinaryOperator::Add, Operand::Truth)],
+        Wanted::Nothing,
+    ),
+];
+
 #[test]
 fn a_const_has_the_value_of_its_operators(rt: HostRuntime) -> Result<(), Fail> {
     let alloc = rt.alloc();
-    let mut known = Constants::new(alloc);
-    known.add(
-        Name::from_slice(alloc, b"A")?,
-        ConstValue {
-            value: 5,
-            signed: true,
-        },
-    )?;
-    let minus_7 = prefix(alloc, PrefixOperator::Minus, number(7))?;
-    let minus_7_again = prefix(alloc, PrefixOperator::Minus, number(7))?;
-    let minus_8 = prefix(alloc, PrefixOperator::Minus, number(8))?;
-    let minus_1 = prefix(alloc, PrefixOperator::Minus, number(1))?;
-    let minus_1_again = prefix(alloc, PrefixOperator::Minus, number(1))?;
-    let rows = [
-        (number(0x7fff_ffff), int(0x7fff_ffff)),
-        (number(0x8000_0000), uint(0x8000_0000)),
-        (unsigned(7), uint(7)),
-        (name(alloc, b"A")?, int(5)),
-        (name(alloc, b"B")?, None),
-        (
-            two(alloc, number(1), BinaryOperator::Subtract, number(2))?,
-            int(0xffff_ffff),
-        ),
-        (
-            two(alloc, unsigned(1), BinaryOperator::Subtract, number(2))?,
-            uint(0xffff_ffff),
-        ),
-        (
-            three(
-                alloc,
-                number(10),
-                BinaryOperator::Subtract,
-                number(3),
-                number(2),
-            )?,
-            int(5),
-        ),
-        (
-            two(alloc, minus_7, BinaryOperator::Divide, number(2))?,
-            int(0xffff_fffd),
-        ),
-        (
-            two(alloc, minus_7_again, BinaryOperator::Divide, unsigned(2))?,
-            uint(0x7fff_fffc),
-        ),
-        (
-            two(alloc, number(7), BinaryOperator::Remainder, number(0))?,
-            int(0xffff_ffff),
-        ),
-        (
-            two(alloc, number(1), BinaryOperator::ShiftLeft, number(33))?,
-            int(2),
-        ),
-        (
-            two(alloc, minus_8, BinaryOperator::ShiftRight, unsigned(1))?,
-            int(0xffff_fffc),
-        ),
-        (
-            two(alloc, number(2), BinaryOperator::Less, minus_1)?,
-            int(0),
-        ),
-        (
-            two(alloc, unsigned(2), BinaryOperator::Less, minus_1_again)?,
-            int(1),
-        ),
-        (
-            two(alloc, unsigned(2), BinaryOperator::And, number(4))?,
-            int(1),
-        ),
-        (prefix(alloc, PrefixOperator::Not, number(5))?, int(0)),
-        (
-            prefix(alloc, PrefixOperator::Complement, number(0))?,
-            int(0xffff_ffff),
-        ),
-        (choice(alloc, number(1), number(2), unsigned(3))?, uint(2)),
-        (
-            two(
-                alloc,
-                number(1),
-                BinaryOperator::Add,
-                Expr::Truth {
-                    place: HERE,
-                    value: true,
-                },
-            )?,
-            None,
-        ),
-    ];
-    for (expr, wanted) in rows {
-        assert_eq!(rt; value(&expr, &known), wanted);
+    let known = one_known(alloc)?;
+    for (first, links, wanted) in ROWS {
+        let expr = chain(alloc, first, links)?;
+        assert_eq!(rt; value(&expr, &known), wanted_value(wanted));
     }
+    Ok(())
+}
+
+#[test]
+fn a_choice_has_the_common_type_of_its_results(rt: HostRuntime) -> Result<(), Fail> {
+    let alloc = rt.alloc();
+    let expr = Expr::Choice {
+        test: Boxed::new(alloc, number(1, false))?,
+        then: Boxed::new(alloc, number(2, false))?,
+        other: Boxed::new(alloc, number(3, true))?,
+    };
+    assert_eq!(rt;
+        value(&expr, &one_known(alloc)?),
+        wanted_value(Wanted::Uint(2))
+    );
     Ok(())
 }

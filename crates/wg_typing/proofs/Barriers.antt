@@ -1,0 +1,130 @@
+-- Barriers, whose arguments are flags and no values.
+use Rattle.std.proofs.Common.{◌≡◌, ℕ, Bool, true, false, not, cond, List, [], ◌∷◌, ◌++◌, length, Option, Some, None, refl}
+use Rattle.std.specs.Prelude.{◌||◌, ◌==◌, is_none}
+use Rattle.wg_words.specs.declared.place.Place.{Place}
+use Rattle.wg_tree.specs.Layers.{Part, Piece, word, zero_word, other}
+use Rattle.wg_tree.specs.Maybe.{then, where_true}
+use Rattle.wg_tree.specs.Named.{at_name}
+use Rattle.wg_tree.specs.RulesBarrier.{barrier_in_plain}
+use Rattle.wg_tree.specs.RulesMismatchCall.{unfit_flags}
+use Rattle.wg_tree.specs.RulesShared.{flags_whole, all_pieces_whole, unknown_flags}
+use Rattle.wg_tree.specs.RulesUnknownName.{places_of}
+use Rattle.wg_tree.specs.Scope.{Context, Around, in_entry, in_plain, in_const, look}
+use Rattle.wg_tree.specs.SiteTree.{at_if}
+use Rattle.wg_tree.specs.TypingBarrier.{Flag, memory, scope, an_object, broken_flag, no_flag, flag_of, flag_word, flag, memory_flags, scope_flags, piece_broken, any_broken, orders, syncs_of, barrier_value, outside_plain}
+use Rattle.wg_tree.specs.declared.expr.Named.{Named}
+use Rattle.wg_tree.specs.declared.scope.Meant.{Meant}
+use Rattle.wg_tree.specs.declared.scope.Meant.TheVariants as meant
+use Rattle.wg_tree.specs.declared.scope.Object.TheVariants as object
+use Rattle.wg_tree.specs.declared.scope.Value.{Value}
+use Rattle.wg_typing.proofs.Facts.{Empty, Has, both, empty_if, empty_left, empty_right, has_is_none, has_then, has_through, holds_nowhere, is_false, not_false}
+use Rattle.wg_typing.proofs.Methods.{three_for_two}
+use Rattle.wg_typing.proofs.Names.{AllStand, StandsIf, look_stands}
+
+-- ---- pieces in which no rule is broken
+
+abbrev pub WholePieces : List Piece → Type 0
+WholePieces [] = Unit {0}
+WholePieces (word name ∷ rest) = WholePieces rest
+WholePieces (zero_word ∷ rest) = WholePieces rest
+WholePieces (other true ∷ rest) = WholePieces rest
+WholePieces (other false ∷ rest) = ⊥
+
+abbrev pub AllFlags : List Part → Type 0
+AllFlags [] = Unit {0}
+AllFlags (p ∷ rest) = WholePieces p.pieces × AllFlags rest
+
+pub whole_pieces : (xs ys : List Piece) → WholePieces xs → WholePieces ys → WholePieces (xs ++ ys)
+whole_pieces [] ys h k = k
+whole_pieces (word name ∷ xs) ys h k = whole_pieces xs ys h k
+whole_pieces (zero_word ∷ xs) ys h k = whole_pieces xs ys h k
+whole_pieces (other true ∷ xs) ys h k = whole_pieces xs ys h k
+whole_pieces (other false ∷ xs) ys h k = absurd h
+
+word_whole : (c : Context) (name : Named) (f : Flag) → flag c name ≡ f → (f ≡ broken_flag → ⊥) → piece_broken c (word name) ≡ false
+word_whole c name memory e n = rw e refl
+word_whole c name (scope s) e n = rw e refl
+word_whole c name an_object e n = rw e refl
+word_whole c name broken_flag e n = absurd (n refl)
+word_whole c name no_flag e n = rw e refl
+
+not_broken : (m : Option Meant) (name : List ℕ) → StandsIf m → flag_of m name ≡ broken_flag → ⊥
+not_broken None name s e = no_word (at_name memory_flags name) (at_name scope_flags name) e
+  where
+    no_word : (m s : Option Bool) → flag_word m s ≡ broken_flag → ⊥
+    no_word (Some b) s e = cc
+    no_word None None e = cc
+    no_word None (Some b) e = cc
+not_broken (Some (meant.Struct number)) name s e = cc
+not_broken (Some (meant.Constant of words known)) name s e = cc
+not_broken (Some (meant.Shared variable of)) name s e = cc
+not_broken (Some (meant.Local local of constant)) name s e = cc
+not_broken (Some (meant.Parameter parameter of)) name s e = cc
+not_broken (Some (meant.Object (object.Buffer buffer of))) name s e = cc
+not_broken (Some (meant.Object (object.Input many record_type standing))) name s e = cc
+not_broken (Some (meant.Object (object.Output output array record_type element))) name s e = cc
+not_broken (Some (meant.Object (object.Handle handle record_type))) name s e = cc
+not_broken (Some (meant.Function number is_entry result parameters chain)) name s e = cc
+not_broken (Some meant.Itself) name s e = cc
+not_broken (Some meant.Broken) name s e = s
+
+neither : (a b : Bool) → a ≡ false → b ≡ false → (a || b) ≡ false
+neither true b e f = e
+neither false b e f = f
+
+none_broken : (c : Context) (ps : List Piece) → AllStand c.names → WholePieces ps → any_broken c ps ≡ false
+none_broken c [] s h = refl
+none_broken c (word name ∷ rest) s h = neither (piece_broken c (word name)) _ (word_whole c name (flag c name) refl (not_broken (look name.name c.names) name.name (look_stands name.name c.names s))) (none_broken c rest s h)
+none_broken c (zero_word ∷ rest) s h = none_broken c rest s h
+none_broken c (other true ∷ rest) s h = none_broken c rest s h
+none_broken c (other false ∷ rest) s h = absurd h
+
+not_of : (b : Bool) → b ≡ false → not b ≡ true
+not_of true e = absurd (cc)
+not_of false e = refl
+
+all_whole : (c : Context) (parts : List Part) → AllStand c.names → AllFlags parts → all_pieces_whole c parts ≡ true
+all_whole c [] s h = refl
+all_whole c (p ∷ rest) s h = both (not (any_broken c p.pieces)) _ (not_of (any_broken c p.pieces) (none_broken c p.pieces s h.0)) (all_whole c rest s h.1)
+
+-- ---- barriers
+
+-- outside plain functions, in which a rule would be broken
+pub barrier_stands : (around : Around) (xs : List Place) (v : Option Value) → Has v → (Empty xs → ⊥) → Empty (barrier_in_plain around xs) → Has (outside_plain around v)
+barrier_stands (in_entry lanes) xs v h n e = h
+barrier_stands in_plain xs v h n e = absurd (n e)
+barrier_stands (in_const allowed) xs v h n e = h
+
+none_named : (names : List Named) → Empty (places_of names) → (length names == 0) ≡ true
+none_named [] h = refl
+none_named (n ∷ rest) h = absurd h
+
+record Ordered (c : Context) (m s : Part) : Type 0 where
+  pub orders : orders c m.pieces ≡ true
+  pub syncs : Has (syncs_of c s.pieces)
+
+whole_flags : (c : Context) (parts : List Part) → AllStand c.names → AllFlags parts → Empty (places_of (unknown_flags c parts)) → flags_whole c parts ≡ true
+whole_flags c parts n h u = both (all_pieces_whole c parts) _ (all_whole c parts n h) (none_named (unknown_flags c parts) u)
+
+ordered : (c : Context) (m s : Part) → AllStand c.names → AllFlags (m ∷ s ∷ []) → Empty (places_of (unknown_flags c (m ∷ s ∷ []))) → Empty (unfit_flags c (m ∷ s ∷ [])) → Ordered c m s
+ordered c m s n h u f = record {
+  orders = not_false _ (is_false _ m.place (empty_left _ (at_if (is_none (syncs_of c s.pieces)) s.place) faults));
+  syncs = has_is_none _ (is_false _ s.place (empty_right (at_if (not (orders c m.pieces)) m.place) _ faults));
+}
+  where
+    faults : Empty (at_if (not (orders c m.pieces)) m.place ++ at_if (is_none (syncs_of c s.pieces)) s.place)
+    faults = empty_if _ _ (whole_flags c (m ∷ s ∷ []) n h u) f
+
+-- flags of two arguments
+has_flags : (c : Context) (name : Place) (parts : List Part) → AllStand c.names → AllFlags parts → (length parts == 2) ≡ true → Empty (places_of (unknown_flags c parts)) → Empty (unfit_flags c parts) → Has (barrier_value c name parts)
+has_flags c name [] n h l u f = absurd (cc)
+has_flags c name (m ∷ []) n h l u f = absurd (cc)
+has_flags c name (m ∷ s ∷ []) n h l u f =
+    let o = ordered c m s n h u f in
+    has_then (then (where_true (orders c m.pieces) s.pieces) (syncs_of c)) _ (has_through (orders c m.pieces) s.pieces (syncs_of c) o.orders o.syncs) (λ b q. tt)
+has_flags c name (m ∷ s ∷ r ∷ rest) n h l u f = absurd (three_for_two (length rest) l)
+
+pub has_barrier_of : (c : Context) (name : Place) (parts : List Part) → AllStand c.names → AllFlags parts → Empty (places_of (unknown_flags c parts)) → Empty (unfit_flags c parts)
+    → Empty (cond (all_pieces_whole c parts) (at_if (not (length parts == 2)) name) []) → Empty (barrier_in_plain c.around (at_if (flags_whole c parts) name)) → Has (outside_plain c.around (barrier_value c name parts))
+has_barrier_of c name parts n h u f l p = barrier_stands c.around (at_if (flags_whole c parts) name) (barrier_value c name parts)
+    (has_flags c name parts n h (not_false _ (is_false _ name (empty_if _ _ (all_whole c parts n h) l))) u f) (holds_nowhere (flags_whole c parts) name (whole_flags c parts n h u)) p

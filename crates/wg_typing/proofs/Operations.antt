@@ -1,0 +1,127 @@
+-- Operators on parts that have types.
+use Rattle.std.proofs.Common.{◌≡◌, Bool, true, false, not, cond, List, [], ◌∷◌, ◌++◌, Option, Some, refl, sym, ◌∙◌, subst}
+use Rattle.std.specs.Prelude.{◌&&◌, is_none}
+use Rattle.wg_words.specs.declared.place.Place.{Place}
+use Rattle.wg_tree.specs.Conversions.{Numbers, numbers, type_of, size_fits, fits, is_number, truth_type, chosen, class_of, suits, Operation, operation_on}
+use Rattle.wg_tree.specs.Layers.{LinkLayer, Part, TypedPart, typed_part, convert, fit}
+use Rattle.wg_tree.specs.Maybe.{then, where_true}
+use Rattle.wg_tree.specs.RulesMismatchExpr.{clash, clash_on, clash_if, unfit_link, choice_of, unfit_results, unfit_choice}
+use Rattle.wg_tree.specs.RulesShared.{links_parts, failing, unfit}
+use Rattle.wg_tree.specs.SiteTree.{at_if}
+use Rattle.wg_tree.specs.TypingOperators.{prefix_type, prefix_value, cast_value, choice_value, suited, run_on, run_type, chain_links, chain_type, chain_value, over_links, typed_of}
+use Rattle.wg_tree.specs.declared.expr.BinaryOperator.{BinaryOperator}
+use Rattle.wg_tree.specs.declared.expr.PrefixOperator.{PrefixOperator}
+use Rattle.wg_tree.specs.declared.expr.PrefixOperator.TheVariants as prefix
+use Rattle.wg_tree.specs.declared.types.TypeTree.{TypeTree}
+use Rattle.wg_typing.proofs.Facts.{Empty, Has, both, empty_left, empty_right, has_is_none, has_then, has_where, is_false, some_of, through_where}
+use Rattle.wg_typing.proofs.Parts.{AllTyped, IsTyped, has_convert, has_fit, passes_test}
+use Rattle.wg_typing.proofs.Types.{chosen_fits, fits_sized, has_numbers, operation_on_fits, size_same}
+
+-- ---- prefix operators and casts
+
+prefix_size : (operator : PrefixOperator) (n : Numbers) → size_fits n.size (prefix_type operator n).size ≡ true
+prefix_size prefix.Minus n = size_same n.size
+prefix_size prefix.Plus n = size_same n.size
+prefix_size prefix.Not n = size_same n.size
+prefix_size prefix.Complement n = size_same n.size
+
+pub has_prefix : (place : Place) (operator : PrefixOperator) (p : Part) → IsTyped p → Empty (failing (λ t. is_number t.of) (typed_part p)) → Has (prefix_value place operator p)
+has_prefix place operator p h e = has_then (typed_part p) _ h (λ t q.
+    has_then (numbers t.of) _ (has_numbers t.of (passes_test (λ t. is_number t.of) (typed_part p) t q e)) (λ n r.
+    has_then (convert (type_of (prefix_type operator n)) t) _ (has_convert (type_of (prefix_type operator n)) t (fits_sized t.of n (prefix_type operator n) r (prefix_size operator n))) (λ a s. tt)))
+
+pub has_cast : (place : Place) (goal : TypeTree) (p : Part) → IsTyped p → Empty (unfit goal p) → Has (cast_value place goal p)
+has_cast place goal p h e = has_then (typed_part p) _ h (λ t q.
+    has_then (where_true (fits t.of goal) t.tree) _ (has_where (fits t.of goal) t.tree (passes_test (λ t. fits t.of goal) (typed_part p) t q e)) (λ a r. tt))
+
+-- ---- `?:`
+
+record Results (a b : TypedPart) : Type 0 where
+  pub first : is_number a.of ≡ true
+  pub second : is_number b.of ≡ true
+  pub together : Has (choice_of (numbers a.of) (numbers b.of))
+
+results : (whole : Place) (a b : TypedPart) → Empty (unfit_results whole a b) → Results a b
+results whole a b h = by_tests (is_number a.of) (is_number b.of) refl refl h
+  where
+    by_tests : (x y : Bool) → is_number a.of ≡ x → is_number b.of ≡ y → Empty (cond (x && y) (at_if (is_none (choice_of (numbers a.of) (numbers b.of))) whole) (at_if (not x) a.place ++ at_if (not y) b.place)) → Results a b
+    by_tests true true e f h = record { first = e; second = f; together = has_is_none _ (is_false _ whole h) }
+    by_tests true false e f h = absurd h
+    by_tests false true e f h = absurd h
+    by_tests false false e f h = absurd h
+
+pub has_choice : (place : Place) (test a b : Part) → IsTyped test → IsTyped a → IsTyped b → Empty (unfit truth_type test) → Empty (unfit_choice place (typed_part a) (typed_part b)) → Has (choice_value place test a b)
+has_choice place test a b h k l e f = has_then (fit truth_type test) _ (has_fit truth_type test h e) (λ x q. has_then (typed_part a) _ k (λ s r. has_then (typed_part b) _ l (λ t u.
+    let g = results place s t (subst (λ z. Empty (unfit_choice place (Some s) z)) u (subst (λ z. Empty (unfit_choice place z (typed_part b))) r f)) in
+    has_then (numbers s.of) _ (has_numbers s.of g.first) (λ m v. has_then (numbers t.of) _ (has_numbers t.of g.second) (λ n w.
+    has_then (chosen m n) _ (chosen_has s t m n v w g.together) (λ c y.
+    let d = chosen_fits m n c y in
+    has_then (convert (type_of c) s) _ (has_convert (type_of c) s (fits_sized s.of m c v d.0)) (λ i j.
+    has_then (convert (type_of c) t) _ (has_convert (type_of c) t (fits_sized t.of n c w d.1)) (λ o p. tt)))))))
+    )
+  where
+    chosen_has : (s t : TypedPart) (m n : Numbers) → numbers s.of ≡ Some m → numbers t.of ≡ Some n → Has (choice_of (numbers s.of) (numbers t.of)) → Has (chosen m n)
+    chosen_has s t m n v w h = subst (λ z. Has (choice_of (Some m) z)) w (subst (λ z. Has (choice_of z (numbers t.of))) v h)
+
+-- ---- two-sided operators
+
+-- two operands that suit an operator and fit together
+pub record Together (operator : BinaryOperator) (a b : TypeTree) : Type 0 where
+  pub first : suits (class_of operator) a ≡ true
+  pub second : suits (class_of operator) b ≡ true
+  pub fit : Has (operation_on operator a b)
+
+pub together : (whole : Place) (operator : BinaryOperator) (left : Place) (a : TypeTree) (t : TypedPart) → Empty (clash_on whole operator left a t) → Together operator a t.of
+together whole operator left a t h = by_tests (suits (class_of operator) a) (suits (class_of operator) t.of) refl refl h
+  where
+    by_tests : (x y : Bool) → suits (class_of operator) a ≡ x → suits (class_of operator) t.of ≡ y → Empty (clash whole x y left t.place (operation_on operator a t.of)) → Together operator a t.of
+    by_tests true true e f h = record { first = e; second = f; fit = has_is_none _ (is_false _ whole h) }
+    by_tests true false e f h = absurd h
+    by_tests false true e f h = absurd h
+    by_tests false false e f h = absurd h
+
+pub suited_is : (operator : BinaryOperator) (a b : TypeTree) → Together operator a b → suited operator a b ≡ operation_on operator a b
+suited_is operator a b g = through_where (suits (class_of operator) a && suits (class_of operator) b) operator (λ operator. operation_on operator a b) (both _ _ g.first g.second)
+
+pub has_suited : (operator : BinaryOperator) (a b : TypeTree) → Together operator a b → Has (suited operator a b)
+has_suited operator a b g = subst Has (sym (suited_is operator a b g)) g.fit
+
+pub right_fits : (operator : BinaryOperator) (a b : TypeTree) (o : Operation) → Together operator a b → suited operator a b ≡ Some o → fits b (type_of o.right) ≡ true
+right_fits operator a b o g e = operation_on_fits operator a b o g.second (sym (suited_is operator a b g) ∙ e)
+
+-- ---- chains
+
+record Runs (of : TypeTree) (l : LinkLayer Part) : Type 0 where
+  pub link : Has (run_on of l)
+  pub after : Has (run_type of l)
+
+runs : (whole : Place) (of : TypeTree) (l : LinkLayer Part) → IsTyped l.operand → Empty (unfit_link whole of l) → Runs of l
+runs whole of l h e = record {
+  link = has_then (typed_part l.operand) _ h (λ t q.
+      has_then (suited l.operator of t.of) _ (has_suited l.operator of t.of (fitting t q)) (λ o r.
+      has_then (convert (type_of o.right) t) _ (has_convert (type_of o.right) t (right_fits l.operator of t.of o (fitting t q) r)) (λ a s. tt)));
+  after = has_then (typed_part l.operand) _ h (λ t q. has_then (suited l.operator of t.of) _ (has_suited l.operator of t.of (fitting t q)) (λ o r. tt));
+}
+  where
+    fitting : (t : TypedPart) → typed_part l.operand ≡ Some t → Together l.operator of t.of
+    fitting t q = together whole l.operator whole of t (subst (λ x. Empty (clash_if whole l.operator of x)) q e)
+
+record Chained (of : Option TypeTree) (rest : List (LinkLayer Part)) : Type 0 where
+  pub links : Has (chain_links of rest)
+  pub last : Has (chain_type of rest)
+
+chained : (whole : Place) (of : TypeTree) (rest : List (LinkLayer Part)) → AllTyped (links_parts rest) → Empty (over_links (unfit_link whole) (Some of) rest) → Chained (Some of) rest
+chained whole of [] h e = record { links = tt; last = tt }
+chained whole of (l ∷ rest) h e =
+    let r = runs whole of l h.0 (empty_left (unfit_link whole of l) _ e) in
+    let next = some_of (run_type of l) r.after in
+    let c = chained whole next.0 rest h.1 (subst (λ x. Empty (over_links (unfit_link whole) x rest)) next.1 (empty_right (unfit_link whole of l) _ e)) in
+    record {
+      links = has_then (run_on of l) _ r.link (λ a q. has_then (chain_links (run_type of l) rest) _ (subst (λ x. Has (chain_links x rest)) (sym next.1) c.links) (λ b s. tt));
+      last = subst (λ x. Has (chain_type x rest)) (sym next.1) c.last;
+    }
+
+pub has_chain : (place : Place) (first : Part) (rest : List (LinkLayer Part)) → IsTyped first → AllTyped (links_parts rest) → Empty (over_links (unfit_link place) (typed_of first) rest) → Has (chain_value place first rest)
+has_chain place first rest h k e = has_then (typed_part first) _ h (λ t q.
+    let c = chained place t.of rest k (subst (λ x. Empty (over_links (unfit_link place) (then x (λ t. Some t.of)) rest)) q e) in
+    has_then (chain_links (Some t.of) rest) _ c.links (λ a r. has_then (chain_type (Some t.of) rest) _ c.last (λ b s. tt)))

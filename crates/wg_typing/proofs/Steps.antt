@@ -1,0 +1,184 @@
+-- Steps in which no rule is broken have typed forms, as statements and in the header of a `for`.
+use Rattle.std.proofs.Common.{◌≡◌, Bool, true, false, not, cond, List, [], ◌∷◌, ◌++◌, Option, Some, None, refl, sym, ap, ◌∙◌, subst}
+use Rattle.std.specs.Prelude.{◌&&◌}
+use Rattle.wg_words.specs.declared.place.Place.{Place}
+use Rattle.wg_tree.specs.Conversions.{type_of, fits, is_number, Operation}
+use Rattle.wg_tree.specs.Layers.{Part, TypedPart, typed_at, typed_part, convert, fit}
+use Rattle.wg_tree.specs.Maybe.{then, where_true}
+use Rattle.wg_tree.specs.RulesActs.{step_takes_collective}
+use Rattle.wg_tree.specs.RulesMismatch.{unfit_wanted, unfit_back, both_suit, unfit_typed_update, unfit_update, unfit_assigned, unfit_alone}
+use Rattle.wg_tree.specs.RulesMismatchExpr.{clash_on}
+use Rattle.wg_tree.specs.RulesNotAssignable.{fixed_target, fixed_part}
+use Rattle.wg_tree.specs.RulesOutputCall.{stands}
+use Rattle.wg_tree.specs.RulesShared.{no_value, act_at, output_used, sync_used, unfit, failing}
+use Rattle.wg_tree.specs.TypingActs.{is_output_act, is_syncing}
+use Rattle.wg_tree.specs.Scope.{Context, collective_here}
+use Rattle.wg_tree.specs.SiteTree.{at_if}
+use Rattle.wg_tree.specs.Typing.{Mismatch, NotAssignable, BadBarrier, BadOutputCall}
+use Rattle.wg_tree.specs.TypingExpr.{part}
+use Rattle.wg_tree.specs.TypingInterlocked.{is_fixed}
+use Rattle.wg_tree.specs.TypingOperators.{suited}
+use Rattle.wg_tree.specs.TypingStep.{Did, a_step, an_act, evaluated, operator_of, target_of, updated, assigned, changed, step_did, step_sites, own_handle, step_stmt, did_in_header, header_trees, header_sites}
+use Rattle.wg_tree.specs.declared.expr.BinaryOperator.{BinaryOperator}
+use Rattle.wg_tree.specs.declared.stmt.Step.{Step}
+use Rattle.wg_tree.specs.declared.stmt.Step.TheVariants as step
+use Rattle.wg_tree.specs.declared.stmt.StepOperator.{StepOperator}
+use Rattle.wg_tree.specs.declared.typed_stmt.TypedStep.{TypedStep}
+use Rattle.wg_tree.specs.declared.scope.Act.TheVariants as act
+use Rattle.wg_tree.specs.declared.scope.Value.{Value}
+use Rattle.wg_tree.specs.declared.scope.Value.TheVariants as value
+use Rattle.wg_typing.proofs.Exprs.{has_value}
+use Rattle.wg_typing.proofs.Facts.{Empty, Has, both, empty_if, empty_left, empty_right, first_only, has_then, has_where, is_false, not_false, then_some, where_same}
+use Rattle.wg_typing.proofs.Layers.{Sound}
+use Rattle.wg_typing.proofs.Operations.{Together, has_suited, right_fits, suited_is, together}
+use Rattle.wg_typing.proofs.Parts.{Whole, has_convert, has_fit, part_typed, passes_test}
+use Rattle.wg_typing.proofs.Sites.{Well, well_left, well_only, well_right}
+
+-- ---- targets
+
+target_has : (p : Place) (v : Option Value) → Has v → Empty (fixed_target p v) → Empty (act_at is_output_act v) → Empty (act_at is_syncing v) → Has (then (typed_at p v) (λ t. where_true (not (is_fixed t.standing)) t))
+target_has p None h f o s = absurd h
+target_has p (Some (value.Typed of standing tree)) h f o s = has_where (not (is_fixed standing)) _ (changes (is_fixed standing) p f)
+  where
+    changes : (b : Bool) (p : Place) → Empty (at_if b p) → not b ≡ true
+    changes true p h = absurd h
+    changes false p h = refl
+target_has p (Some (value.Object object)) h f o s = absurd f
+target_has p (Some (value.Text bytes)) h f o s = absurd f
+target_has p (Some (value.Act name (act.Step x))) h f o s = absurd f
+target_has p (Some (value.Act name (act.Barrier true))) h f o s = absurd s
+target_has p (Some (value.Act name (act.Barrier false))) h f o s = absurd f
+target_has p (Some (value.Act name (act.Request group output number element amount))) h f o s = absurd o
+target_has p (Some (value.Act name (act.Increment group output element amount))) h f o s = absurd o
+target_has p (Some (value.Act name (act.Complete handle))) h f o s = absurd o
+
+has_target : (p : Part) → Whole p → Empty (fixed_part p) → Empty (output_used p) → Empty (sync_used p) → Has (target_of p)
+has_target p = target_has p.place p.value
+
+target_typed : (p : Part) (t : TypedPart) → target_of p ≡ Some t → typed_part p ≡ Some t
+target_typed p t e =
+    let a = then_some (typed_part p) _ t e in
+    a.1 ∙ ap Some (where_same (not (is_fixed a.0.standing)) a.0 t a.2)
+
+-- ---- what a step other than a call does: a typed step
+
+abbrev Steps : Option Did → Type 0
+Steps None = ⊥
+Steps (Some (a_step s)) = Unit {0}
+Steps (Some (an_act a)) = ⊥
+
+then_steps : {A : Type 0} (o : Option A) (f : A → Option Did) → Has o → ((a : A) → o ≡ Some a → Steps (f a)) → Steps (then o f)
+then_steps None f h k = absurd h
+then_steps (Some a) f h k = k a refl
+
+assigned_steps : (target v : Part) → Whole target → Whole v → Empty (fixed_part target) → Empty (output_used target) → Empty (sync_used target) → Empty (output_used v) → Empty (sync_used v) → Empty (unfit_assigned None target v) → Steps (assigned None target v)
+assigned_steps target v h k f o s p r e = then_steps (target_of target) _ (has_target target h f o s) (λ to q.
+    let faults : Empty (no_value v ++ unfit to.of v) = subst (λ x. Empty (unfit_wanted (then x (λ t. Some t.of)) v)) (target_typed target to q) e in
+    then_steps (fit to.of v) _ (has_fit to.of v (part_typed v k (empty_left (no_value v) _ faults) p r) (empty_right (no_value v) _ faults)) (λ from i. tt))
+
+updated_steps : (operator : BinaryOperator) (target v : TypedPart) → Empty (unfit_typed_update operator target v) → Steps (updated operator target v)
+updated_steps operator target v e = then_steps (suited operator target.of v.of) _ (has_suited operator target.of v.of fitting) (λ o q.
+    then_steps (where_true (fits (type_of o.result) target.of) (type_of o.left)) _ (has_where (fits (type_of o.result) target.of) _ (back o q)) (λ by i.
+    then_steps (convert (type_of o.right) v) _ (has_convert (type_of o.right) v (right_fits operator target.of v.of o fitting q)) (λ operand j. tt)))
+  where
+    fitting : Together operator target.of v.of
+    fitting = together target.place operator target.place target.of v (empty_left (clash_on target.place operator target.place target.of v) _ e)
+
+    back : (o : Operation) → suited operator target.of v.of ≡ Some o → fits (type_of o.result) target.of ≡ true
+    back o q = not_false _ (is_false _ v.place (subst (λ x. Empty (unfit_back target v x)) (sym (suited_is operator target.of v.of fitting) ∙ q)
+        (empty_if (both_suit operator target v) _ (both _ _ fitting.first fitting.second) (empty_right (clash_on target.place operator target.place target.of v) _ e))))
+
+update_steps : (operator : BinaryOperator) (target v : Part) → Whole target → Whole v → Empty (fixed_part target) → Empty (output_used target) → Empty (sync_used target) → Empty (output_used v) → Empty (sync_used v) → Empty (unfit_assigned (Some operator) target v) → Steps (assigned (Some operator) target v)
+update_steps operator target v h k f o s p r e = then_steps (target_of target) _ (has_target target h f o s) (λ to q.
+    then_steps (typed_part v) _ (part_typed v k (empty_left (no_value v) _ e) p r) (λ from i.
+    updated_steps operator to from (subst (λ x. Empty (unfit_update operator (Some to) x)) i (subst (λ x. Empty (unfit_update operator x (typed_part v))) (target_typed target to q) (empty_right (no_value v) _ e)))))
+
+any_assigned : (operator : Option BinaryOperator) (target v : Part) → Whole target → Whole v → Empty (fixed_part target) → Empty (output_used target ++ output_used v) → Empty (sync_used target ++ sync_used v) → Empty (unfit_assigned operator target v) → Steps (assigned operator target v)
+any_assigned None target v h k f o s e = assigned_steps target v h k f (empty_left (output_used target) _ o) (empty_left (sync_used target) _ s) (empty_right (output_used target) _ o) (empty_right (sync_used target) _ s) e
+any_assigned (Some operator) target v h k f o s e = update_steps operator target v h k f (empty_left (output_used target) _ o) (empty_left (sync_used target) _ s) (empty_right (output_used target) _ o) (empty_right (sync_used target) _ s) e
+
+changed_steps : (operator : StepOperator) (target : Part) → Whole target → Empty (fixed_part target) → Empty (output_used target) → Empty (sync_used target) → Empty (failing (λ t. is_number t.of) (typed_part target)) → Steps (changed operator target)
+changed_steps operator target h f o s e = then_steps (target_of target) _ (has_target target h f o s) (λ to q. step_where (is_number to.of) _ (passes_test (λ t. is_number t.of) (typed_part target) to (target_typed target to q) e))
+  where
+    step_where : (b : Bool) (s : TypedStep) → b ≡ true → Steps (where_true b (a_step s))
+    step_where true s e = tt
+    step_where false s e = absurd (cc)
+
+-- a step that is more than an expression
+abbrev IsOther : Step → Type 0
+IsOther (step.Evaluate e) = ⊥
+IsOther (step.Assign target operator place v) = Unit {0}
+IsOther (step.Before place operator target) = Unit {0}
+IsOther (step.After target operator place) = Unit {0}
+
+-- the parts of a step that is no call have values, and no rule is broken at it
+other_steps : (c : Context) (header : Bool) (s : Step) → Sound c → Well (step_sites c header s) → IsOther s → Steps (step_did c s)
+other_steps c header (step.Evaluate e) n h i = absurd i
+other_steps c header (step.Assign target operator place v) n h i =
+    let here = well_only (well_right h) in
+    any_assigned (operator_of operator) (part c target) (part c v) (has_value c n target (well_left (well_left h))) (has_value c n v (well_right (well_left h)))
+    (here.clear NotAssignable) (empty_left (output_used (part c target) ++ output_used (part c v)) _ (here.clear BadOutputCall)) (empty_left (sync_used (part c target) ++ sync_used (part c v)) _ (here.clear BadBarrier)) (here.clear Mismatch)
+other_steps c header (step.Before place operator target) n h i =
+    let here = well_only (well_right h) in
+    changed_steps operator (part c target) (has_value c n target (well_left h)) (here.clear NotAssignable) (empty_left (output_used (part c target)) _ (here.clear BadOutputCall)) (empty_left (sync_used (part c target)) _ (here.clear BadBarrier)) (here.clear Mismatch)
+other_steps c header (step.After target operator place) n h i =
+    let here = well_only (well_right h) in
+    changed_steps operator (part c target) (has_value c n target (well_left h)) (here.clear NotAssignable) (empty_left (output_used (part c target)) _ (here.clear BadOutputCall)) (empty_left (sync_used (part c target)) _ (here.clear BadBarrier)) (here.clear Mismatch)
+
+steps_stmt : (c : Context) (o : Option Did) → Steps o → Has (then o (step_stmt c))
+steps_stmt c None h = absurd h
+steps_stmt c (Some (a_step s)) h = tt
+steps_stmt c (Some (an_act a)) h = absurd h
+
+steps_in_header : (o : Option Did) → Steps o → Has (then o did_in_header)
+steps_in_header None h = absurd h
+steps_in_header (Some (a_step s)) h = tt
+steps_in_header (Some (an_act a)) h = absurd h
+
+-- ---- calls as statements
+
+evaluated_stmt : (c : Context) (p : Place) (v : Option Value) → Has v → Empty (unfit_alone p v) → Empty (act_at (λ a. not (stands c false a)) v) → Empty (cond (step_takes_collective c false) [] (act_at is_syncing v)) → Has (then (evaluated v) (step_stmt c))
+evaluated_stmt c p None h e o s = absurd h
+evaluated_stmt c p (Some (value.Typed of standing tree)) h e o s = tt
+evaluated_stmt c p (Some (value.Object object)) h e o s = absurd e
+evaluated_stmt c p (Some (value.Text bytes)) h e o s = absurd e
+evaluated_stmt c p (Some (value.Act name (act.Step x))) h e o s = tt
+evaluated_stmt c p (Some (value.Act name (act.Barrier true))) h e o s = has_where (collective_here c) _ (first_only (collective_here c) [] name s).0
+evaluated_stmt c p (Some (value.Act name (act.Barrier false))) h e o s = tt
+evaluated_stmt c p (Some (value.Act name (act.Request group output number element amount))) h e o s = absurd o
+evaluated_stmt c p (Some (value.Act name (act.Increment group output element amount))) h e o s = has_where (collective_here c) _ (not_false (collective_here c) (is_false _ name o))
+evaluated_stmt c p (Some (value.Act name (act.Complete handle))) h e o s = has_where (collective_here c && own_handle c handle) _ (not_false (collective_here c && own_handle c handle) (is_false _ name o))
+
+evaluated_in_header : (c : Context) (p : Place) (v : Option Value) → Has v → Empty (unfit_alone p v) → Empty (act_at (λ a. not (stands c true a)) v) → Empty (act_at is_syncing v) → Has (then (evaluated v) did_in_header)
+evaluated_in_header c p None h e o s = absurd h
+evaluated_in_header c p (Some (value.Typed of standing tree)) h e o s = tt
+evaluated_in_header c p (Some (value.Object object)) h e o s = absurd e
+evaluated_in_header c p (Some (value.Text bytes)) h e o s = absurd e
+evaluated_in_header c p (Some (value.Act name (act.Step x))) h e o s = tt
+evaluated_in_header c p (Some (value.Act name (act.Barrier true))) h e o s = absurd s
+evaluated_in_header c p (Some (value.Act name (act.Barrier false))) h e o s = tt
+evaluated_in_header c p (Some (value.Act name (act.Request group output number element amount))) h e o s = absurd o
+evaluated_in_header c p (Some (value.Act name (act.Increment group output element amount))) h e o s = absurd o
+evaluated_in_header c p (Some (value.Act name (act.Complete handle))) h e o s = absurd o
+
+-- ---- steps
+
+pub has_step : (c : Context) (s : Step) → Sound c → Well (step_sites c false s) → Has (then (step_did c s) (step_stmt c))
+has_step c (step.Evaluate e) n h =
+    let here = well_only (well_right h) in
+    evaluated_stmt c (part c e).place (part c e).value (has_value c n e (well_left h)) (here.clear Mismatch) (here.clear BadOutputCall) (here.clear BadBarrier)
+has_step c (step.Assign target operator place v) n h = steps_stmt c _ (other_steps c false (step.Assign target operator place v) n h tt)
+has_step c (step.Before place operator target) n h = steps_stmt c _ (other_steps c false (step.Before place operator target) n h tt)
+has_step c (step.After target operator place) n h = steps_stmt c _ (other_steps c false (step.After target operator place) n h tt)
+
+step_in_header : (c : Context) (s : Step) → Sound c → Well (step_sites c true s) → Has (then (step_did c s) did_in_header)
+step_in_header c (step.Evaluate e) n h =
+    let here = well_only (well_right h) in
+    evaluated_in_header c (part c e).place (part c e).value (has_value c n e (well_left h)) (here.clear Mismatch) (here.clear BadOutputCall) (here.clear BadBarrier)
+step_in_header c (step.Assign target operator place v) n h = steps_in_header _ (other_steps c true (step.Assign target operator place v) n h tt)
+step_in_header c (step.Before place operator target) n h = steps_in_header _ (other_steps c true (step.Before place operator target) n h tt)
+step_in_header c (step.After target operator place) n h = steps_in_header _ (other_steps c true (step.After target operator place) n h tt)
+
+pub has_header : (c : Context) (steps : List Step) → Sound c → Well (header_sites c steps) → Has (header_trees c steps)
+has_header c [] n h = tt
+has_header c (s ∷ rest) n h = has_then (then (step_did c s) did_in_header) _ (step_in_header c s n (well_left h)) (λ a q. has_then (header_trees c rest) _ (has_header c rest n (well_right h)) (λ b r. tt))

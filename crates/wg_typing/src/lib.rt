@@ -1,0 +1,6 @@
+//! The law of the typing rules: what breaks none of them has a typed form.
+#![tactic(auto)]
+
+mod law;
+
+pub use law::well_typed_has_its_form;

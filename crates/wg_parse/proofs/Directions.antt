@@ -6,8 +6,8 @@ use Rattle.wg_grammar.specs.Reading.{Got, Wrong, and_then, sees, take_if}
 use Rattle.wg_grammar.specs.Parts.{of}
 use Rattle.wg_tree.specs.Symbols.{code, class}
 use Rattle.wg_tree.specs.GrammarItem.{directed}
-use Rattle.wg_parse.specs.Pieces.{direction}
-use Rattle.wg_parse.specs.PartReads.{item_read}
+use Rattle.wg_parse.specs.ItemPieces.{direction}
+use Rattle.wg_statements.specs.PartReads.{item_read}
 
 abbrev is_direction : Token → Bool
 is_direction = of class (code k.In ∷ code k.Out ∷ code k.InOut ∷ [])

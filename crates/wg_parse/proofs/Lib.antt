@@ -1,10 +1,3 @@
 pub mod Answering
-pub mod Bodies
 pub mod Directions
-pub mod Ends
-pub mod LastFits
-pub mod LevelSteps
-pub mod OperandKinds
-pub mod Rooms
-pub mod Turns
-pub mod TypeReads
+pub mod TextEnds

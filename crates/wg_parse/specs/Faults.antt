@@ -1,5 +1,5 @@
 -- What is answered for tokens that spell no tree within the nesting: the place and the kind of the first that fails. Own.
-use Rattle.std.specs.Prelude.{◌≡◌, ℕ, ◌+◌, ◌-◌, ◌<◌, ◌≤◌, ◌^◌, List, [], ◌∷◌, length, slice_get, Option, Some, None, Result, Ok, Err}
+use Rattle.std.specs.Prelude.{◌≡◌, ℕ, ◌+◌, ◌-◌, ◌≤◌, ◌^◌, min, List, [], ◌∷◌, length, slice_get, Option, Some, None, Result, Ok, Err}
 use Rattle.wg_words.specs.declared.place.Place.{Place}
 use Rattle.wg_tree.specs.declared.token.Token.{Token}
 use Rattle.wg_tree.specs.declared.token.TokenKind.{TokenKind}
@@ -10,10 +10,6 @@ use Rattle.wg_tree.specs.LexicalRules.{most_bytes}
 use Rattle.wg_tree.specs.ParseFaults.{IsExpected, IsTooDeep, Answer, spelled, expected, too_deep}
 use Rattle.wg_parse.specs.declared.parsing.ParseFault.{ParseFault}
 use Rattle.wg_parse.specs.declared.parsing.ParseFault.TheVariants as fault
-
--- they are the tokens of a text that is not too long
-abbrev pub IsOfText : List Token → Type 0
-IsOfText tokens = (text : List ℕ) × Cuts text tokens × (length text ≤ most_bytes)
 
 -- how deep statements and expressions may nest, each
 abbrev pub nesting : ℕ
@@ -27,14 +23,17 @@ abbrev pub end_of : Option Token → Place
 end_of None = record { line = 1; column = 1 }
 end_of (Some t) = record { line = t.place.line; column = t.place.column + (t.to - t.from) }
 
--- its column has 32 bits
-abbrev pub EndFits : Option Token → Type 0
-EndFits None = Unit {0}
-EndFits (Some t) = (t.from ≤ t.to) × (t.place.column + (t.to - t.from) < 2 ^ 32)
+-- a place as it is answered: a column that 32 bits can't hold is the greatest that they can
+abbrev pub in_32_bits : Place → Place
+in_32_bits p = record { line = p.line; column = min p.column (2 ^ 32 - 1) }
+
+-- the tokens are those of a text that is not too long
+abbrev pub IsOfText : List Token → Type 0
+IsOfText tokens = (text : List ℕ) × Cuts text tokens × (length text ≤ most_bytes)
 
 -- the place of the next token, or of the end of the tokens
 abbrev pub place_at : List Token → List Token → Place
-place_at tokens [] = end_of (last tokens)
+place_at tokens [] = in_32_bits (end_of (last tokens))
 place_at tokens (t ∷ later) = t.place
 
 abbrev pub kind_at : List Token → TokenKind

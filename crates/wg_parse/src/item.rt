@@ -1,25 +1,18 @@
 //! Declarations of a text.
 ghost use Rattle.wg_tree.specs.GrammarItem as grammar;
 ghost use Rattle.wg_tree.specs.ReadsItem.{read_text};
-ghost use Rattle.wg_parse.specs.Gives.{Gives};
-ghost use Rattle.wg_parse.specs.PartReads.{item_read};
-ghost use Rattle.wg_parse.specs.Pieces as pieces;
+ghost use Rattle.wg_cursor.specs.Gives.{Gives};
+ghost use Rattle.wg_statements.specs.PartReads.{item_read};
+ghost use Rattle.wg_parse.specs.ItemPieces as pieces;
 
-use crate::attribute::attributes;
-use crate::body::block;
-use crate::classes::class;
-use crate::cursor::Cursor;
-use crate::declaration::size;
-use crate::expr::expr;
-use crate::halt::Halt;
-use crate::kind::Kind;
 use crate::parameter::{parameters, semantic};
-use crate::rule::{Rule, many};
-use crate::symbols::*;
-use crate::types::{TYPES, a_type, type_argument};
-use crate::words::*;
 use sqlite_items::Items;
 use std::alloc::Global;
+use wg_cursor::symbols::*;
+use wg_cursor::words::*;
+use wg_cursor::{Cursor, Halt, Rule, class, many};
+use wg_expressions::{Kind, expr};
+use wg_statements::{TYPES, a_type, attributes, block, size, type_argument};
 use wg_tree::{BufferType, Field, Item, Keyword, Named, ResultType, Source};
 use wg_words::Place;
 
@@ -70,7 +63,7 @@ struct AField {
 
 impl Rule for AField {
     ghost use Rattle.wg_tree.specs.GrammarItem as grammar;
-    ghost use Rattle.wg_parse.specs.PartReads.{item_read};
+    ghost use Rattle.wg_statements.specs.PartReads.{item_read};
 
     type Tree = Field;
 
@@ -132,8 +125,8 @@ fn buffer_type(alloc: Global, cursor: &mut Cursor<'_>) -> Result<BufferType, Hal
 struct NextName;
 
 impl Rule for NextName {
-    ghost use Rattle.wg_parse.specs.PartReads.{item_read};
-    ghost use Rattle.wg_parse.specs.Pieces as pieces;
+    ghost use Rattle.wg_statements.specs.PartReads.{item_read};
+    ghost use Rattle.wg_parse.specs.ItemPieces as pieces;
 
     type Tree = Named;
 
@@ -264,7 +257,7 @@ struct AnItem {
 
 impl Rule for AnItem {
     ghost use Rattle.wg_tree.specs.GrammarItem as grammar;
-    ghost use Rattle.wg_parse.specs.PartReads.{item_read};
+    ghost use Rattle.wg_statements.specs.PartReads.{item_read};
 
     type Tree = Item;
 

@@ -1,20 +1,16 @@
 //! Parameters of functions.
 ghost use Rattle.std.specs.Prelude.{◌≡◌};
 ghost use Rattle.wg_tree.specs.GrammarItem as grammar;
-ghost use Rattle.wg_parse.specs.Gives.{Gives};
-ghost use Rattle.wg_parse.specs.PartReads.{item_read};
-ghost use Rattle.wg_parse.specs.Pieces as pieces;
+ghost use Rattle.wg_cursor.specs.Gives.{Gives};
+ghost use Rattle.wg_statements.specs.PartReads.{item_read};
+ghost use Rattle.wg_parse.specs.ItemPieces as pieces;
 
-use crate::attribute::attributes;
-use crate::classes::class;
-use crate::cursor::Cursor;
-use crate::halt::Halt;
-use crate::rule::{Rule, many};
-use crate::symbols::*;
-use crate::types::{TYPES, a_type, parameter_object};
-use crate::words::*;
 use sqlite_items::Items;
 use std::alloc::Global;
+use wg_cursor::symbols::*;
+use wg_cursor::words::*;
+use wg_cursor::{Cursor, Halt, Rule, class, many};
+use wg_statements::{TYPES, a_type, attributes, parameter_object};
 use wg_tree::{Directed, Direction, Named, Parameter, ParameterType, Token};
 
 const DIRECTIONS: [u32; 3] = [IN, OUT, IN_OUT];
@@ -120,8 +116,8 @@ struct NextParameter {
 }
 
 impl Rule for NextParameter {
-    ghost use Rattle.wg_parse.specs.PartReads.{item_read};
-    ghost use Rattle.wg_parse.specs.Pieces as pieces;
+    ghost use Rattle.wg_statements.specs.PartReads.{item_read};
+    ghost use Rattle.wg_parse.specs.ItemPieces as pieces;
 
     type Tree = Parameter;
 

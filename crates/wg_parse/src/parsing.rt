@@ -1,13 +1,12 @@
 //! A whole text.
-ghost use Rattle.std.specs.Prelude.{◌≡◌, IfOk, IfErr};
+ghost use Rattle.std.specs.Prelude.{◌≡◌, List, IfOk, IfErr};
+ghost use Rattle.wg_tree.specs.declared.token.Token.{Token as Cut};
 ghost use Rattle.wg_tree.specs.ParseFaults.{SpelledWithin, Answer, IsAnswer};
 ghost use Rattle.wg_parse.specs.Faults as spec;
 
-use crate::classes::classes;
-use crate::cursor::Cursor;
-use crate::halt::Halt;
 use crate::item::text;
 use std::alloc::{AllocError, Global};
+use wg_cursor::{Cursor, Halt, classes};
 use wg_tree::{Source, Token, TokenKind, one_answer, reads_to_the_fault, reads_what_is_spelled};
 use wg_words::{Place, TryCopy};
 
@@ -17,13 +16,18 @@ pub const MOST_NESTING: u32 = 64;
 /// Why tokens are not those of a text of the language.
 #[derive(Debug, Drop)]
 pub enum ParseFault {
-    /// No text begins with the tokens up to this one, or the tokens end before the text does. At the end the kind is `End`, and the place that of the byte after the last token.
+    /// No text begins with the tokens up to this one, or the tokens end before the text does. At the end the kind is `End`, and the place that of the byte after the last token; a column that 32 bits can't hold is the greatest that they can.
     Expected { place: Place, kind: TokenKind },
     /// The first token that stands deeper than 64.
     TooDeep { place: Place },
     /// No memory was left.
     Memory,
 }
+
+/// In a text that is not too long, the end has the place that it is answered with.
+pub fn ends_of_texts_fit()
+    ensures { (tokens : List Cut) → spec.IsOfText tokens → spec.in_32_bits (spec.end_of (spec.last tokens)) ≡ spec.end_of (spec.last tokens) }
+{}
 
 /// An equal kind.
 fn copy_kind(alloc: Global, kind: &TokenKind) -> Result<TokenKind, AllocError>
@@ -47,21 +51,22 @@ fn copy_kind(alloc: Global, kind: &TokenKind) -> Result<TokenKind, AllocError>
 
 /// The place of the byte after the last token.
 fn end_of(tokens: &[Token]) -> Place
-    requires { spec.EndFits (spec.last tokens.now) }
-    ensures { result ≡ spec.end_of (spec.last tokens.now) }
+    ensures { result ≡ spec.in_32_bits (spec.end_of (spec.last tokens.now)) }
 {
     match tokens.last() {
-        Some(token) => Place {
-            line: token.place.line,
-            column: token.place.column + (token.to - token.from),
-        },
+        Some(token) => {
+            let size = token.to.saturating_sub(token.from);
+            Place {
+                line: token.place.line,
+                column: token.place.column.saturating_add(size),
+            }
+        }
         None => Place { line: 1, column: 1 },
     }
 }
 
 /// The place of the next token, or of the end.
 fn place_at(tokens: &[Token], rest: &[Token]) -> Place
-    requires { spec.EndFits (spec.last tokens.now) }
     ensures { result ≡ spec.place_at tokens.now rest.now }
 {
     match rest {
@@ -81,7 +86,6 @@ fn kind_at(alloc: Global, rest: &[Token]) -> Result<TokenKind, AllocError>
 
 /// The fault of tokens that could go on with none of the rest, which is where reading stopped.
 fn expected(alloc: Global, tokens: &[Token], rest: &[Token]) -> ParseFault
-    requires { spec.EndFits (spec.last tokens.now) }
     ensures { spec.SaysExpected tokens.now rest.now result }
 {
     match kind_at(alloc, rest) {
@@ -95,7 +99,6 @@ fn expected(alloc: Global, tokens: &[Token], rest: &[Token]) -> ParseFault
 
 /// The tree of the tokens of a text within a nesting, or the first token that fails.
 fn parse_within(alloc: Global, tokens: &[Token], nesting: u32) -> Result<Source, ParseFault>
-    requires { spec.IsOfText tokens.now }
     ensures tree { IfOk result (λ tree. SpelledWithin nesting tokens.now tree) }
     ensures fault { IfErr result (λ fault. spec.HasCause nesting tokens.now fault) }
     ensures exact { (answer : Answer) → IsAnswer nesting tokens.now answer → spec.Tells tokens.now answer result }
@@ -126,7 +129,6 @@ fn parse_within(alloc: Global, tokens: &[Token], nesting: u32) -> Result<Source,
 
 /// The tree of the tokens of a text, or the first token that fails.
 pub fn parse(alloc: Global, tokens: &[Token]) -> Result<Source, ParseFault>
-    requires { spec.IsOfText tokens.now }
     ensures tree { IfOk result (λ tree. SpelledWithin spec.nesting tokens.now tree) }
     ensures fault { IfErr result (λ fault. spec.HasCause spec.nesting tokens.now fault) }
     ensures exact { (answer : Answer) → IsAnswer spec.nesting tokens.now answer → spec.Tells tokens.now answer result }

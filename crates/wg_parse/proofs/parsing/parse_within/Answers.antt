@@ -1,9 +1,8 @@
 use Rattle.std.proofs.Common.{◌≡◌, ◌∙◌, sym, ap, subst, Err}
 use Rattle.wg_tree.specs.ReadsItem.{read_text}
 use Rattle.wg_tree.specs.ParseFaults.{spelled, expected, too_deep, IsExpected, IsTooDeep}
-use Rattle.wg_parse.specs.Gives.{Halts}
+use Rattle.wg_cursor.specs.Gives.{Halts}
 use Rattle.wg_parse.proofs.Answering.{told, says, all_read, some_left}
-use Rattle.wg_parse.proofs.LastFits.{last_fits}
 use Rattle.wg_parse.proofs.parsing.parse_within.Goals as goal
 
 pub returns-then-left-eq0-clause-tree : goal.returns-then-left-eq0-clause-tree
@@ -16,9 +15,6 @@ returns-then-left-eq0-clause-exact c = λ answer other.
     let read = ap (read_text c.args.nesting) (sym c.new-cursor.ensures) ∙ c.in-Ok-text.ensures in
     c.one_answer.ensures.one c.args.nesting c.args.tokens.now answer (spelled c.in-Ok-text.tree) other
     (all_read c.args.nesting c.args.tokens.now c.text.new.cursor c.in-Ok-text.tree (sym c.left.ensures ∙ c.if-left-eq0.true) read c.reads_what_is_spelled.ensures.only)
-
-pub expected-requires : goal.expected-requires
-expected-requires c = last_fits c.args.tokens.now c.requires
 
 pub returns-in-Ok-text-clause-fault : goal.returns-in-Ok-text-clause-fault
 returns-in-Ok-text-clause-fault c =
@@ -33,9 +29,6 @@ returns-in-Ok-text-clause-exact c =
     let is = subst (IsExpected c.args.nesting c.args.tokens.now) (sym c.rest.ensures)
     (some_left c.args.nesting c.args.tokens.now c.text.new.cursor c.in-Ok-text.tree (λ e. c.if-left-eq0.false (c.left.ensures ∙ e)) read c.reads_to_the_fault.ensures.left) in
     (told c.args.nesting c.args.tokens.now (expected c.rest.result.now) (Err c.expected.result) (c.one_answer.ensures.one c.args.nesting c.args.tokens.now) is (says c.args.nesting c.args.tokens.now c.rest.result.now c.expected.result c.expected.ensures)).2
-
-pub expected-requires-in-Err-Wrong : goal.expected-requires-in-Err-Wrong
-expected-requires-in-Err-Wrong c = last_fits c.args.tokens.now c.requires
 
 pub returns-in-Err-Wrong-clause-fault : goal.returns-in-Err-Wrong-clause-fault
 returns-in-Err-Wrong-clause-fault c =
@@ -52,9 +45,6 @@ returns-in-Err-Wrong-clause-exact c =
     let is = subst (IsExpected c.args.nesting c.args.tokens.now) (sym c.rest-in-Err-Wrong.ensures) (c.reads_to_the_fault.ensures.wrong c.args.nesting c.args.tokens.now c.text.new.cursor read) in
     (told c.args.nesting c.args.tokens.now (expected c.rest-in-Err-Wrong.result.now) (Err c.expected-in-Err-Wrong.result) (c.one_answer.ensures.one c.args.nesting c.args.tokens.now) is
     (says c.args.nesting c.args.tokens.now c.rest-in-Err-Wrong.result.now c.expected-in-Err-Wrong.result c.expected-in-Err-Wrong.ensures)).2
-
-pub place_at-requires : goal.place_at-requires
-place_at-requires c = last_fits c.args.tokens.now c.requires
 
 pub returns-in-Err-Deep-clause-fault : goal.returns-in-Err-Deep-clause-fault
 returns-in-Err-Deep-clause-fault c =

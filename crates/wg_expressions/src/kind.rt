@@ -1,0 +1,55 @@
+//! Kinds of expressions, and the sets of classes that decide on them.
+ghost use Rattle.std.specs.Prelude.{◌≡◌};
+ghost use Rattle.wg_tree.specs.ReadsExpr as reads;
+ghost use Rattle.wg_expressions.specs.Kinds.{kind_of};
+
+use wg_cursor::symbols::{
+    BOOL, BOOL2, BOOL3, BOOL4, FALSE, INT, INT2, INT3, INT4, LEFT_PAREN, MINUS, NAME, NOT, NUMBER,
+    PLUS, TEXT, TILDE, TRUE, UINT, UINT2, UINT3, UINT4, ZERO,
+};
+
+/// The classes of the types of values.
+pub const VALUE_TYPES: [u32; 12] = [
+    BOOL, BOOL2, BOOL3, BOOL4, INT, INT2, INT3, INT4, UINT, UINT2, UINT3, UINT4,
+];
+
+pub(crate) const PREFIX_OPERATORS: [u32; 4] = [MINUS, PLUS, NOT, TILDE];
+
+const STARTS: [u32; 22] = [
+    MINUS, PLUS, NOT, TILDE, NUMBER, ZERO, TRUE, FALSE, NAME, BOOL, BOOL2, BOOL3, BOOL4, INT, INT2,
+    INT3, INT4, UINT, UINT2, UINT3, UINT4, LEFT_PAREN,
+];
+
+const CONSTANT_STARTS: [u32; 8] = [MINUS, PLUS, NOT, TILDE, NUMBER, ZERO, NAME, LEFT_PAREN];
+
+const ARGUMENT_STARTS: [u32; 9] = [
+    MINUS, PLUS, NOT, TILDE, NUMBER, ZERO, TEXT, NAME, LEFT_PAREN,
+];
+
+/// An expression, one that is a `const` outside of attributes, or an argument of an attribute.
+#[derive(Clone, Copy, Debug, PartialEq, Eq)]
+pub enum Kind {
+    Full,
+    Constant,
+    Argument,
+}
+
+/// What stands one deeper: an expression, or the operand of a prefix.
+#[derive(Clone, Copy)]
+pub(crate) enum Nested {
+    Whole,
+    Operand,
+}
+
+impl Kind {
+    /// The classes with which it begins.
+    pub fn starts(self) -> &'static [u32]
+        ensures { result.now ≡ reads.starts (kind_of self) }
+    {
+        match self {
+            Kind::Full => &STARTS,
+            Kind::Constant => &CONSTANT_STARTS,
+            Kind::Argument => &ARGUMENT_STARTS,
+        }
+    }
+}

@@ -1,0 +1,15 @@
+//! Reads expressions.
+#![tactic(auto)]
+
+mod inner;
+mod kind;
+mod levels;
+mod nesting;
+mod operands;
+mod operators;
+mod postfix;
+mod primes;
+
+pub use kind::{Kind, VALUE_TYPES};
+pub use nesting::expr;
+pub use operators::value_type;

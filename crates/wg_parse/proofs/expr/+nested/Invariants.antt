@@ -1,4 +1,0 @@
-use Rattle.wg_parse.proofs.expr.+nested.Given as goal
-
-abbrev pub decreases-nested : goal.decreases-nested
-decreases-nested l = l.room

@@ -1,0 +1,4 @@
+pub mod AttributePieces
+pub mod PartReads
+pub mod StmtPieces
+pub mod TypePieces

@@ -18,9 +18,10 @@ use Rattle.wg_tree.specs.ExprMeaning.{seen, word_of, when}
 use Rattle.wg_tree.specs.StepMeaning.{steps_do, started}
 use Rattle.wg_tree.specs.StmtMeaning.{does, stmt_step, loop, test_of, maybe_else}
 use Rattle.wg_meaning.specs.declared.halt.Halt.{Halt}
+use Rattle.wg_meaning.specs.Flows.{begun}
 use Rattle.wg_meaning.specs.Says.{Stops}
-use Rattle.wg_meaning.proofs.Sequences.{stops_next, stops_same}
 use Rattle.wg_meaning.proofs.Loops.{is_true_at}
+use Rattle.wg_meaning.proofs.Sequences.{stops_next, stops_same}
 
 module _ (setting : Setting) (callees : List Callee) where
   abbrev run : TypedStmt → Step State Flow
@@ -63,13 +64,9 @@ module _ (setting : Setting) (callees : List Callee) where
         pub if_else : w ≡ 0 → run s st t ≡ other o s1 t1
         if_else z = layer ∙ ap (λ r. and_then r branches) d ∙ ap (λ n. branches n s1 t1) z
 
-    pub while_runs : (a : List TypedAttribute) (e : TypedExpr) → s ≡ stmt.While a e x → run s st t ≡ loop (tested e) (run y) (pure tt) st t
-    while_runs a e is =
-        ap (λ z. run z st t) is ∙ ap (λ (m : Step State Flow). m st t) (does_while a e x)
-        ∙ ap (λ z. loop (tested e) (run z) (pure tt) st t) (sym same)
+  module _ (s : TypedStmt) (st : State) (t : ℕ) where
+    pub while_runs : (a : List TypedAttribute) (e : TypedExpr) (x : TypedStmt) → s ≡ stmt.While a e x → run s st t ≡ loop (tested e) (run x) (pure tt) st t
+    while_runs a e x is = ap (λ z. run z st t) is ∙ ap (λ (m : Step State Flow). m st t) (does_while a e x)
 
-    pub for_runs : (a : List TypedAttribute) (b : Option TypedStart) (e : Option TypedExpr) (l : List TypedStep) (u : Unit {0}) (s1 : State) (t1 : ℕ) → s ≡ stmt.For a b e l x → started setting callees b st t ≡ Done u s1 t1 → run s st t ≡ loop (test_of setting callees e) (run y) (steps_do setting callees l) s1 t1
-    for_runs a b e l u s1 t1 is d =
-        ap (λ z. run z st t) is ∙ ap (λ (m : Step State Flow). m st t) (does_for a b e l x)
-        ∙ ap (λ r. and_then r (λ v. loop (test_of setting callees e) (run x) (steps_do setting callees l))) d
-        ∙ ap (λ z. loop (test_of setting callees e) (run z) (steps_do setting callees l) s1 t1) (sym same)
+    pub for_runs : (a : List TypedAttribute) (b : Option TypedStart) (e : Option TypedExpr) (l : List TypedStep) (x : TypedStmt) → s ≡ stmt.For a b e l x → run s st t ≡ begun (started setting callees b) (loop (test_of setting callees e) (run x) (steps_do setting callees l)) st t
+    for_runs a b e l x is = ap (λ z. run z st t) is ∙ ap (λ (m : Step State Flow). m st t) (does_for a b e l x)

@@ -1,7 +1,7 @@
 -- The meaning of a function by its number.
 use Rattle.std.proofs.Common.{◌≡◌, ℕ, zero, suc, ◌+◌, ◌<◌, ◌≤◌, List, [], ◌∷◌, ◌++◌, length, take, get_or, refl, sym, ap, ◌∙◌, arith, length-append}
-use Rattle.std.specs.Prelude.{slice_get, Some}
-use Rattle.std.proofs.lemmas.Option.{slice_get_past}
+use Rattle.std.specs.Prelude.{slice_get, Some, None}
+use Rattle.std.proofs.lemmas.Option.{slice_get_past, slice_get_within, get_or_from_slice_get}
 use Rattle.wg_tree.specs.declared.typed.TypedFunction.{TypedFunction}
 use Rattle.wg_tree.specs.Places.{Setting}
 use Rattle.wg_tree.specs.Calls.{Callee, callee_at, callee_in, no_callee}
@@ -15,6 +15,23 @@ got_before (x ∷ xs) ys (suc k) lt = got_before xs ys k (omega (arith, lt))
 got_last : {A : Type 0} (xs : List A) (x : A) → slice_get (xs ++ x ∷ []) (length xs) ≡ Some x
 got_last [] x = refl
 got_last (y ∷ xs) x = got_last xs x
+
+pub got_within : {A : Type 0} (n k : ℕ) (xs : List A) → k < n → slice_get (take n xs) k ≡ slice_get xs k
+got_within zero k xs lt = absurd (let h : ⊥ = omega (arith, lt) in h)
+got_within (suc n) k [] lt = refl
+got_within (suc n) zero (x ∷ xs) lt = refl
+got_within (suc n) (suc k) (x ∷ xs) lt = got_within n k xs (omega (arith, lt))
+
+pub got_beyond : {A : Type 0} (n k : ℕ) (xs : List A) → n ≤ k → slice_get (take n xs) k ≡ None
+got_beyond zero k xs le = slice_get_past [] k (omega arith)
+got_beyond (suc n) k [] le = slice_get_past [] k (omega arith)
+got_beyond (suc n) zero (x ∷ xs) le = absurd (let h : ⊥ = omega (arith, le) in h)
+got_beyond (suc n) (suc k) (x ∷ xs) le = got_beyond n k xs (omega (arith, le))
+
+got_none : {A : Type 0} (xs : List A) (k : ℕ) → slice_get xs k ≡ None → length xs ≤ k
+got_none [] k e = omega arith
+got_none (x ∷ xs) zero e = cc
+got_none (x ∷ xs) (suc k) e = let h = got_none xs k e in omega (arith, h)
 
 module _ (setting : Setting) where
   callees_keep : (functions : List TypedFunction) (cs : List Callee) (k : ℕ) → k < length cs → callee_at (callees_after setting cs functions) k ≡ callee_at cs k
@@ -35,8 +52,7 @@ module _ (setting : Setting) where
       ap (callee_at (callees_after setting (cs ++ callee_of setting cs c ∷ []) functions)) e
       ∙ callee_found functions (cs ++ callee_of setting cs c ∷ []) f d (omega (arith, lt))
 
-  -- the function at an index
-  pub function_at : (functions : List TypedFunction) (f : ℕ) (c : TypedFunction) → c ≡ get_or functions f c → f < length functions → callee_at (callees_of setting functions) f ≡ callee_of setting (callees_of setting (take f functions)) c
+  function_at : (functions : List TypedFunction) (f : ℕ) (c : TypedFunction) → c ≡ get_or functions f c → f < length functions → callee_at (callees_of setting functions) f ≡ callee_of setting (callees_of setting (take f functions)) c
   function_at functions f c e lt =
       let z : f ≡ length {A = Callee} [] + f = omega arith in
       ap (callee_at (callees_of setting functions)) z ∙ callee_found functions [] f c lt ∙ ap (callee_of setting (callees_of setting (take f functions))) (sym e)
@@ -45,6 +61,13 @@ module _ (setting : Setting) where
   callees_length [] cs = omega arith
   callees_length (c ∷ functions) cs = callees_length functions (cs ++ callee_of setting cs c ∷ []) ∙ omega (arith, length-append cs (callee_of setting cs c ∷ []))
 
-  -- a function that is not there
-  pub function_past : (functions : List TypedFunction) (f : ℕ) → length functions ≤ f → callee_at (callees_of setting functions) f ≡ no_callee
+  function_past : (functions : List TypedFunction) (f : ℕ) → length functions ≤ f → callee_at (callees_of setting functions) f ≡ no_callee
   function_past functions f le = ap callee_in (slice_get_past (callees_of setting functions) f (omega (arith, le, callees_length functions [])))
+
+  -- a function that is there
+  pub function_found : (functions : List TypedFunction) (f : ℕ) (c : TypedFunction) → slice_get functions f ≡ Some c → callee_at (callees_of setting functions) f ≡ callee_of setting (callees_of setting (take f functions)) c
+  function_found functions f c e = function_at functions f c (sym (get_or_from_slice_get functions f c c e)) (slice_get_within functions f c e)
+
+  -- a function that is not there
+  pub function_missing : (functions : List TypedFunction) (f : ℕ) → slice_get functions f ≡ None → callee_at (callees_of setting functions) f ≡ no_callee
+  function_missing functions f e = function_past functions f (got_none functions f e)

@@ -1,5 +1,6 @@
 -- What is left of a call, and of the kinds of expressions that evaluate one part first.
-use Rattle.std.proofs.Common.{◌≡◌, ℕ, zero, suc, ◌<◌, ◌≤◌, List, [], ◌∷◌, length, drop, get_or, map, min, refl, sym, ap, ◌∙◌, arith, append-nil}
+use Rattle.std.proofs.Common.{◌≡◌, ℕ, zero, suc, ◌≤◌, List, [], ◌∷◌, length, drop, map, min, refl, sym, ap, ◌∙◌, arith, append-nil}
+use Rattle.std.specs.Prelude.{slice_get, Some, None}
 use Rattle.wg_tree.specs.Turns.{Outcome, Done, Step, and_then, ◌>>=◌, ◌>>◌, pure}
 use Rattle.wg_tree.specs.declared.state.State.{State}
 use Rattle.wg_tree.specs.declared.state.Passed.{Passed}
@@ -12,7 +13,7 @@ use Rattle.wg_tree.specs.FunctionMeaning.{callees_of}
 use Rattle.wg_meaning.specs.declared.halt.Halt.{Halt}
 use Rattle.wg_meaning.specs.Says.{Stops}
 use Rattle.wg_meaning.proofs.Sequences.{gives, stops_next, stops_same, drop_past}
-use Rattle.wg_meaning.proofs.Callees.{function_at, function_past}
+use Rattle.wg_meaning.proofs.Callees.{function_found, function_missing}
 
 none_back : (ps : List Passed) (s : State) (t : ℕ) → all_back ps [] s t ≡ Done tt s t
 none_back [] s t = refl
@@ -45,12 +46,12 @@ module _ (setting : Setting) (functions : List TypedFunction) (f : ℕ) (argumen
   abbrev callee : Callee
   callee = callee_at (callees_of setting functions) f
 
-  pub calls_nothing : length functions ≤ f → called setting.structs callee arguments s t ≡ Done [] s t
-  calls_nothing le = rw (function_past setting functions f le) refl
+  pub calls_nothing : slice_get functions f ≡ None → called setting.structs callee arguments s t ≡ Done [] s t
+  calls_nothing e = rw (function_missing setting functions f e) refl
 
-  module _ (c : TypedFunction) (is : c ≡ get_or functions f c) (lt : f < length functions) where
+  module _ (c : TypedFunction) (is : slice_get functions f ≡ Some c) where
     its_parameters : callee.parameters ≡ c.parameters
-    its_parameters = ap (λ (m : Callee). m.parameters) (function_at setting functions f c is lt)
+    its_parameters = ap (λ (m : Callee). m.parameters) (function_found setting functions f c is)
 
     abbrev rest : List Passed → Step State (List ℕ)
     rest given = on_world (callee.does (map (λ (p : Passed). p.words) given)) >>= (λ left. all_back given left.1 >> pure left.0)

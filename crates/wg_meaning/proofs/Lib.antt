@@ -1,10 +1,7 @@
 pub mod Branches
 pub mod Callees
 pub mod Calling
-pub mod LaneRuns
-pub mod Lists
 pub mod Loops
-pub mod Marks
 pub mod Numbered
 pub mod Sequences
-pub mod Sizes
+pub mod Words

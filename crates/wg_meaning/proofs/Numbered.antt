@@ -1,19 +1,35 @@
--- What is left of a call of a function by its number.
-use Rattle.std.proofs.Common.{◌≡◌, ℕ, ◌<◌, ◌≤◌, List, [], length, take, get_or, sym, ap}
+-- What is left of a call of a function by its number, one of those that calls reach.
+use Rattle.std.proofs.Common.{◌≡◌, ℕ, zero, suc, ◌≤◌, List, [], ◌∷◌, length, take, sym, ap, ◌∙◌, arith, take_all, take-take}
+use Rattle.std.specs.Prelude.{slice_get, Some, None}
+use Rattle.std.proofs.lemmas.Option.{slice_get_within}
 use Rattle.wg_tree.specs.Turns.{Outcome, Done}
 use Rattle.wg_tree.specs.declared.state.State.{State}
 use Rattle.wg_tree.specs.declared.typed.TypedFunction.{TypedFunction}
 use Rattle.wg_tree.specs.Places.{Setting}
 use Rattle.wg_tree.specs.Calls.{callee_at, on_world}
 use Rattle.wg_tree.specs.FunctionMeaning.{callees_of, function_does}
-use Rattle.wg_meaning.proofs.Callees.{function_at, function_past}
+use Rattle.wg_meaning.proofs.Callees.{function_found, function_missing}
 
-module _ (setting : Setting) (functions : List TypedFunction) (f : ℕ) (values : List (List ℕ)) (s : State) (t : ℕ) where
+take_short : {A : Type 0} (n : ℕ) (xs : List A) → length (take n xs) ≤ n
+take_short zero xs = omega arith
+take_short (suc n) [] = omega arith
+take_short (suc n) (x ∷ xs) = let h = take_short n xs in omega (arith, h)
+
+module _ (setting : Setting) (functions : List TypedFunction) (reach f : ℕ) (values : List (List ℕ)) (s : State) (t : ℕ) where
+  abbrev reached : List TypedFunction
+  reached = take (suc reach) functions
+
   abbrev pub run_of_number : Outcome State (List ℕ × List (List ℕ))
-  run_of_number = on_world ((callee_at (callees_of setting functions) f).does values) s t
+  run_of_number = on_world ((callee_at (callees_of setting reached) f).does values) s t
 
-  pub nothing_runs : length functions ≤ f → run_of_number ≡ Done ([], []) s t
-  nothing_runs le = ap (λ m. on_world (m.does values) s t) (function_past setting functions f le)
+  pub nothing_runs : slice_get reached f ≡ None → run_of_number ≡ Done ([], []) s t
+  nothing_runs e = ap (λ m. on_world (m.does values) s t) (function_missing setting reached f e)
 
-  pub runs_number : (c : TypedFunction) → c ≡ get_or functions f c → f < length functions → on_world (function_does setting (callees_of setting (take f functions)) c values) s t ≡ run_of_number
-  runs_number c is lt = sym (ap (λ m. on_world (m.does values) s t) (function_at setting functions f c is lt))
+  pub runs_number : (c : TypedFunction) → slice_get reached f ≡ Some c → on_world (function_does setting (callees_of setting (take reach (take f functions))) c values) s t ≡ run_of_number
+  runs_number c is =
+      let lt = slice_get_within reached f c is in
+      let few = take_short (suc reach) functions in
+      let short = take_short f functions in
+      let same = take_all reach (take f functions) (omega (arith, lt, few, short)) ∙ sym (take-take f (suc reach) functions (omega (arith, lt, few))) in
+      ap (λ l. on_world (function_does setting (callees_of setting l) c values) s t) same
+      ∙ sym (ap (λ m. on_world (m.does values) s t) (function_found setting reached f c is))

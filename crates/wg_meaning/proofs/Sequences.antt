@@ -29,12 +29,10 @@ at_index f xs i x e lt =
 pub stops_next : {S A B : Type 0} (o : Outcome S A) (k : A → Step S B) (h : Halt) → Stops o h → Stops (and_then o k) h
 stops_next o k halt.Turns e = ap (λ x. and_then x k) e
 stops_next o k halt.Memory e = tt
-stops_next o k halt.Depth e = tt
 
 pub stops_same : {S A : Type 0} (o p : Outcome S A) (h : Halt) → o ≡ p → Stops o h → Stops p h
 stops_same o p halt.Turns e s = sym e ∙ s
 stops_same o p halt.Memory e s = tt
-stops_same o p halt.Depth e s = tt
 
 -- ---- lists of steps, where the answers of the first are known
 

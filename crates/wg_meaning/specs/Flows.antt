@@ -13,6 +13,10 @@ goes_on flow.Broke = false
 goes_on flow.Continued = false
 goes_on (flow.Returned words) = false
 
+-- what a `for` begins with, then its loop
+abbrev pub begun : Step State (Unit {0}) → Step State Flow → Step State Flow
+begun start loop = start >> loop
+
 -- a loop's body takes a turn
 abbrev pub entered : Step State Flow → Step State Flow
 entered body = turn >> body

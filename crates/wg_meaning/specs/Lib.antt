@@ -1,7 +1,3 @@
-pub mod Asked
-pub mod Fit
 pub mod Flows
-pub mod Launches
-pub mod PerWord
-pub mod Pieces
+pub mod Reach
 pub mod Says

@@ -1,5 +1,5 @@
 -- What the program's answer says of a step.
-use Rattle.std.specs.Prelude.{◌≡◌, ⊤, ℕ, List, Option, Some, None, Result, Ok, Err}
+use Rattle.std.specs.Prelude.{◌≡◌, ⊤, ℕ, List, Option, Some, None, Result, Ok, Err, take}
 use Rattle.wg_tree.specs.Turns.{Outcome, Spent, Done, Step, ◌>>=◌, pure}
 use Rattle.wg_tree.specs.declared.state.State.{State}
 use Rattle.wg_tree.specs.declared.state.Spot.{Spot}
@@ -11,23 +11,22 @@ use Rattle.wg_tree.specs.StepMeaning.{raw_word}
 use Rattle.wg_tree.specs.FunctionMeaning.{callees_of}
 use Rattle.wg_meaning.specs.declared.halt.Halt.{Halt}
 use Rattle.wg_meaning.specs.declared.halt.Halt.TheVariants as halt
-use Rattle.wg_meaning.specs.declared.place.Setting.{Setting as Given}
-use Rattle.wg_meaning.specs.Pieces.{setting_of}
+use Rattle.wg_values.specs.declared.place.Setting.{Setting as Given}
+use Rattle.wg_values.specs.Pieces.{setting_of}
 
--- turns are spent where the step spends them; want of memory or of depth says nothing
+-- turns are spent where the step spends them; want of memory says nothing
 abbrev pub Stops : {S A : Type 0} → Outcome S A → Halt → Type 0
 Stops o halt.Turns = o ≡ Spent
 Stops o halt.Memory = ⊤
-Stops o halt.Depth = ⊤
 
 -- the step's own answer, state and turns left
 abbrev pub Says : {S A : Type 0} → Outcome S A → Result A Halt → S → ℕ → Type 0
 Says o (Ok a) s t = o ≡ Done a s t
 Says o (Err h) s t = Stops o h
 
--- the meanings of the functions that may be called
-abbrev pub callees_in : Given → List Callee
-callees_in s = callees_of (setting_of s) s.earlier.now
+-- the meanings of the functions that may be called where calls reach so many
+abbrev pub callees_in : ℕ → Given → List Callee
+callees_in reach s = callees_of (setting_of s) (take reach s.earlier.now)
 
 -- the state after a copy back
 abbrev pub back_in : Option Spot → List ℕ → State → State

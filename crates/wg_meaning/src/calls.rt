@@ -1,13 +1,13 @@
-ghost use Rattle.std.specs.Prelude.{◌≡◌, ◌≤◌, ℕ, IfOk, map};
+ghost use Rattle.std.specs.Prelude.{◌≡◌, ◌≤◌, ◌<◌, ◌↔◌, ℕ, IfOk, IsTrue, map};
 ghost use Rattle.wg_tree.specs.declared.state.Passed.{Passed as Given};
 ghost use Rattle.wg_tree.specs.Turns.{Done};
 ghost use Rattle.wg_tree.specs.Calls.{callee_at, on_world, all_back};
 ghost use Rattle.wg_meaning.specs.Says.{Says, callees_in, back_in};
 
 use crate::halt::Halt;
-use crate::place::{Setting, write};
 use std::alloc::{AllocError, Global};
 use wg_tree::{Passed, State};
+use wg_values::{Setting, write};
 use wg_words::{Items, WordLists, Words};
 
 /// A lane that runs, with the turns that it may still make.
@@ -18,7 +18,15 @@ pub struct Run {
 }
 
 /// What runs the functions that a function calls.
+///
+/// A function calls only those before it, so it is enough to reach as many as there are.
 pub trait Calls {
+    ghost reach: { Self → ℕ };
+
+    /// Whether it runs the function of a number.
+    fn reaches(&self, function: u32) -> bool
+        ensures { IsTrue result ↔ (function < reach self.now) };
+
     /// Runs a function by its number on its parameters' values: its result, and its parameters as it leaves them.
     fn call(
         &self,
@@ -27,7 +35,7 @@ pub trait Calls {
         values: WordLists,
         run: &mut Run,
     ) -> Result<(Words, WordLists), Halt>
-        ensures says { Says (on_world ((callee_at (callees_in setting.now) function).does values) run.old.state run.old.turns) result run.new.state run.new.turns }
+        ensures says { Says (on_world ((callee_at (callees_in (reach self.now) setting.now) function).does values) run.old.state run.old.turns) result run.new.state run.new.turns }
         ensures turns { run.new.turns ≤ run.old.turns };
 }
 

@@ -1,27 +1,27 @@
-ghost use Rattle.std.specs.Prelude.{◌≡◌, ◌≤◌, [], ◌∷◌, IfOk, length, map, option_map};
+ghost use Rattle.std.specs.Prelude.{◌≡◌, ◌≤◌, [], ◌∷◌, IfOk, length, map, option_map, take, slice_get};
 ghost use Rattle.wg_tree.specs.declared.state.Spot.TheVariants as spot;
+ghost use Rattle.std.specs.Option.{option_copied};
 ghost use Rattle.wg_tree.specs.Turns.{Done, each};
-ghost use Rattle.wg_tree.specs.Places.{array_size};
-ghost use Rattle.wg_tree.specs.Calls.{value_of, all_passed, passed, called, callee_at, direction_in, parameter_words};
-ghost use Rattle.wg_tree.specs.ExprMeaning.{seen, kind_does, follows, links, word_of, index_of, followed, chained, operated, components_of};
-ghost use Rattle.wg_meaning.specs.Pieces.{setting_of};
+ghost use Rattle.wg_tree.specs.declared.typed_expr.Access.TheOpen.{TypedKind-F};
+ghost use Rattle.wg_tree.specs.Layout.{words_of};
+ghost use Rattle.wg_tree.specs.Places.{array_size, zeros};
+ghost use Rattle.wg_tree.specs.Calls.{value_of, all_passed, passed, called, callee_at, direction_in};
+ghost use Rattle.wg_tree.specs.ExprMeaning.{seen, kind_step, kind_does, follows, links, word_of, index_of, followed, chained, operated, components_of};
+ghost use Rattle.wg_values.specs.Pieces.{setting_of};
 ghost use Rattle.wg_meaning.specs.Says.{Says, callees_in, spot_result};
 
 use crate::calls::{Calls, Run, copy_all_back, passed_words};
 use crate::halt::Halt;
-use crate::intrinsics::call as call_intrinsic;
-use crate::layout::{Piece, field_piece, size};
-use crate::operators::{combine_all, convert, prefix_all, scalar, truth_word};
-use crate::place::{
-    Setting, buffer_place, element, fetch, handle_place, input_place, part, raw_words,
-};
-use crate::requests::target;
-use crate::words::{pick, put_all, word as word_at, zero_words};
 use sqlite_items::{Boxed, Items};
 use std::alloc::AllocError;
 use wg_tree::{
-    Access, BinaryOperator, Directed, Direction, Passed, Spot, State, Store, TypeTree, TypedExpr,
-    TypedKind, TypedLink, TypedParameter, TypedParameterType,
+    Access, BinaryOperator, Directed, Direction, Intrinsic, Passed, PrefixOperator, Spot, State,
+    Store, TypeTree, TypedExpr, TypedFunction, TypedKind, TypedLink, TypedParameter,
+};
+use wg_values::{
+    Setting, buffer_place, combine_all, components, convert, element, fetch, field_piece,
+    handle_place, input_place, intrinsic, parameter_size, part, prefix_all, put_all, raw_words,
+    scalar, target, truth_word, word_at, zero_value, zero_words,
 };
 use wg_words::{Word, WordLists, Words};
 
@@ -33,7 +33,7 @@ pub fn spot<C: Calls>(
     e: &TypedExpr,
     run: &mut Run,
 ) -> Result<Spot, Halt>
-    ensures says { Says ((seen (setting_of setting.now) (callees_in setting.now) e.now).spot run.old.state run.old.turns) result run.new.state run.new.turns }
+    ensures says { Says ((seen (setting_of setting.now) (callees_in (C.reach calls.now) setting.now) e.now).spot run.old.state run.old.turns) result run.new.state run.new.turns }
     ensures turns { run.new.turns ≤ run.old.turns }
 {
     kind(setting, calls, &e.kind, e.of, run)
@@ -47,7 +47,7 @@ pub fn value<C: Calls>(
     e: &TypedExpr,
     run: &mut Run,
 ) -> Result<Words, Halt>
-    ensures says { Says (value_of setting.now.structs.now (seen (setting_of setting.now) (callees_in setting.now) e.now) run.old.state run.old.turns) result run.new.state run.new.turns }
+    ensures says { Says (value_of setting.now.structs.now (seen (setting_of setting.now) (callees_in (C.reach calls.now) setting.now) e.now) run.old.state run.old.turns) result run.new.state run.new.turns }
     ensures turns { run.new.turns ≤ run.old.turns }
 {
     let at = match spot(setting, calls, e, run) {
@@ -66,7 +66,7 @@ pub fn word<C: Calls>(
     e: &TypedExpr,
     run: &mut Run,
 ) -> Result<Word, Halt>
-    ensures says { Says (word_of (setting_of setting.now) (seen (setting_of setting.now) (callees_in setting.now) e.now) run.old.state run.old.turns) result run.new.state run.new.turns }
+    ensures says { Says (word_of (setting_of setting.now) (seen (setting_of setting.now) (callees_in (C.reach calls.now) setting.now) e.now) run.old.state run.old.turns) result run.new.state run.new.turns }
     ensures turns { run.new.turns ≤ run.old.turns }
 {
     match value(setting, calls, e, run) {
@@ -82,7 +82,7 @@ fn index<C: Calls>(
     at: &Option<Boxed<TypedExpr>>,
     run: &mut Run,
 ) -> Result<Word, Halt>
-    ensures says { Says (index_of (setting_of setting.now) (option_map (seen (setting_of setting.now) (callees_in setting.now)) at.now) run.old.state run.old.turns) result run.new.state run.new.turns }
+    ensures says { Says (index_of (setting_of setting.now) (option_map (seen (setting_of setting.now) (callees_in (C.reach calls.now) setting.now)) at.now) run.old.state run.old.turns) result run.new.state run.new.turns }
     ensures turns { run.new.turns ≤ run.old.turns }
 {
     match at {
@@ -99,7 +99,7 @@ fn values<C: Calls>(
     es: &Items<TypedExpr>,
     run: &mut Run,
 ) -> Result<WordLists, Halt>
-    ensures says { Says (each (map (value_of setting.now.structs.now) (map (seen (setting_of setting.now) (callees_in setting.now)) es.now)) run.old.state run.old.turns) result run.new.state run.new.turns }
+    ensures says { Says (each (map (value_of setting.now.structs.now) (map (seen (setting_of setting.now) (callees_in (C.reach calls.now) setting.now)) es.now)) run.old.state run.old.turns) result run.new.state run.new.turns }
     ensures turns { run.new.turns ≤ run.old.turns }
 {
     let mut list = WordLists::new(setting.alloc);
@@ -123,7 +123,7 @@ fn follow<C: Calls>(
     base: Spot,
     run: &mut Run,
 ) -> Result<Spot, Halt>
-    ensures says { Says (followed (map (follows (setting_of setting.now) (callees_in setting.now)) forms.now) of base run.old.state run.old.turns) result run.new.state run.new.turns }
+    ensures says { Says (followed (map (follows (setting_of setting.now) (callees_in (C.reach calls.now) setting.now)) forms.now) of base run.old.state run.old.turns) result run.new.state run.new.turns }
     ensures turns { run.new.turns ≤ run.old.turns }
 {
     let mut at = base;
@@ -133,7 +133,7 @@ fn follow<C: Calls>(
             Ok(next) => next,
             Err(halt) => return Err(halt),
         };
-        t = type_after(setting, form);
+        t = type_after(setting, calls, form);
     }
     Ok(at)
 }
@@ -147,23 +147,24 @@ fn access<C: Calls>(
     at: Spot,
     run: &mut Run,
 ) -> Result<Spot, Halt>
-    ensures says { Says ((follows (setting_of setting.now) (callees_in setting.now) form.now).after t at run.old.state run.old.turns) result run.new.state run.new.turns }
+    ensures says { Says ((follows (setting_of setting.now) (callees_in (C.reach calls.now) setting.now) form.now).after t at run.old.state run.old.turns) result run.new.state run.new.turns }
     ensures turns { run.new.turns ≤ run.old.turns }
 {
     match form {
         Access::Field { field, .. } => {
-            let piece = field_piece(setting.alloc, setting.structs, t, *field)?;
+            let piece = field_piece(setting.structs, t, *field)?;
             Ok(part(setting.alloc, piece, at)?)
         }
-        Access::Components { components, .. } => Ok(read_components(
-            setting, components, t, at, run,
-        )?),
+        Access::Components {
+            components: numbers,
+            ..
+        } => Ok(read_components(setting, numbers, t, at, run)?),
         Access::Index { index, of } => {
             let i = match word(setting, calls, index, run) {
                 Ok(i) => i,
                 Err(halt) => return Err(halt),
             };
-            let words = size(setting.alloc, setting.structs, *of)?;
+            let words = setting.structs.words(*of)?;
             Ok(element(setting.alloc, array_length(t), words, i, at)?)
         }
     }
@@ -179,7 +180,7 @@ fn chain<C: Calls>(
     first: Words,
     run: &mut Run,
 ) -> Result<Words, Halt>
-    ensures says { Says (chained (map (links (setting_of setting.now) (callees_in setting.now)) rest.now) of first run.old.state run.old.turns) result run.new.state run.new.turns }
+    ensures says { Says (chained (map (links (setting_of setting.now) (callees_in (C.reach calls.now) setting.now)) rest.now) of first run.old.state run.old.turns) result run.new.state run.new.turns }
     ensures turns { run.new.turns ≤ run.old.turns }
 {
     let mut words = first;
@@ -203,7 +204,7 @@ fn link_after<C: Calls>(
     words: Words,
     run: &mut Run,
 ) -> Result<Words, Halt>
-    ensures says { Says ((links (setting_of setting.now) (callees_in setting.now) link.now).next t words run.old.state run.old.turns) result run.new.state run.new.turns }
+    ensures says { Says ((links (setting_of setting.now) (callees_in (C.reach calls.now) setting.now) link.now).next t words run.old.state run.old.turns) result run.new.state run.new.turns }
     ensures turns { run.new.turns ≤ run.old.turns }
 {
     match link.before {
@@ -226,7 +227,7 @@ fn operate<C: Calls>(
     words: Words,
     run: &mut Run,
 ) -> Result<Words, Halt>
-    ensures says { Says (operated (setting_of setting.now) operator t (seen (setting_of setting.now) (callees_in setting.now) e.now) words run.old.state run.old.turns) result run.new.state run.new.turns }
+    ensures says { Says (operated (setting_of setting.now) operator t (seen (setting_of setting.now) (callees_in (C.reach calls.now) setting.now) e.now) words run.old.state run.old.turns) result run.new.state run.new.turns }
     ensures turns { run.new.turns ≤ run.old.turns }
 {
     match operator {
@@ -260,8 +261,23 @@ fn operate<C: Calls>(
     }
 }
 
-fn type_after(setting: &Setting<'_>, form: &Access) -> TypeTree
-    ensures { result ≡ (follows (setting_of setting.now) (callees_in setting.now) form.now).of }
+/// Components of a vector, by number.
+fn read_components(
+    setting: &Setting<'_>,
+    numbers: &Words,
+    t: TypeTree,
+    at: Spot,
+    run: &Run,
+) -> Result<Spot, AllocError>
+    ensures { IfOk result (λ p. components_of (setting_of setting.now) numbers.now t at run.now.state run.now.turns ≡ Done p run.now.state run.now.turns) }
+{
+    let at = components(setting, numbers, t, at, &run.state)?;
+    Ok(at)
+}
+
+/// The type of what a form gives, which is the same whatever is called.
+fn type_after<C: Calls>(setting: &Setting<'_>, _calls: &C, form: &Access) -> TypeTree
+    ensures { result ≡ (follows (setting_of setting.now) (callees_in (C.reach _calls.now) setting.now) form.now).of }
 {
     match form {
         Access::Field { of, .. } | Access::Components { of, .. } | Access::Index { of, .. } => *of,
@@ -277,28 +293,6 @@ fn array_length(t: TypeTree) -> u32
     }
 }
 
-/// Components of a vector, by number: of one its place, of several their words.
-#[tactic(auto, using(crate::proofs::Lists::one_component, crate::proofs::Lists::several_components))]
-fn read_components(
-    setting: &Setting<'_>,
-    components: &Words,
-    t: TypeTree,
-    at: Spot,
-    run: &Run,
-) -> Result<Spot, AllocError>
-    ensures { IfOk result (λ p. components_of (setting_of setting.now) components.now t at run.now.state run.now.turns ≡ Done p run.now.state run.now.turns) }
-{
-    let components = components.as_slice();
-    if components.len() == 1 {
-        let from = u64::from(components[0]);
-        part(setting.alloc, Piece { from, to: from + 1 }, at)
-    } else {
-        let words = fetch(setting, t, &at, &run.state)?;
-        let words = pick(setting.alloc, words.as_slice(), components)?;
-        Ok(Spot::Value { words })
-    }
-}
-
 /// One argument by its parameter's direction.
 #[cycle(expr)]
 fn pass<C: Calls>(
@@ -308,7 +302,7 @@ fn pass<C: Calls>(
     e: &TypedExpr,
     run: &mut Run,
 ) -> Result<Passed, Halt>
-    ensures says { Says (passed setting.now.structs.now parameter.now (seen (setting_of setting.now) (callees_in setting.now) e.now) run.old.state run.old.turns) result run.new.state run.new.turns }
+    ensures says { Says (passed setting.now.structs.now parameter.now (seen (setting_of setting.now) (callees_in (C.reach calls.now) setting.now) e.now) run.old.state run.old.turns) result run.new.state run.new.turns }
     ensures turns { run.new.turns ≤ run.old.turns }
 {
     match direction(parameter.direction) {
@@ -321,7 +315,7 @@ fn pass<C: Calls>(
                 Ok(at) => at,
                 Err(halt) => return Err(halt),
             };
-            let count = parameter_size(setting, parameter.of)?;
+            let count = parameter_size(setting.structs, parameter.of)?;
             let words = zero_words(setting.alloc, count)?;
             Ok(Passed {
                 words,
@@ -351,15 +345,6 @@ fn direction(written: Option<Directed>) -> Direction
     }
 }
 
-fn parameter_size(setting: &Setting<'_>, of: TypedParameterType) -> Result<u64, AllocError>
-    ensures { IfOk result (λ n. n ≡ parameter_words setting.now.structs.now of) }
-{
-    match of {
-        TypedParameterType::Value { of } => size(setting.alloc, setting.structs, of),
-        TypedParameterType::Object { .. } => Ok(0),
-    }
-}
-
 /// The arguments from left to right, each by its parameter.
 #[cycle(expr)]
 #[tactic(auto, using(crate::proofs::Calling::none_left))]
@@ -370,7 +355,7 @@ fn pass_all<C: Calls>(
     arguments: &Items<TypedExpr>,
     run: &mut Run,
 ) -> Result<wg_words::Items<Passed>, Halt>
-    ensures says { Says (all_passed setting.now.structs.now parameters.now (map (seen (setting_of setting.now) (callees_in setting.now)) arguments.now) run.old.state run.old.turns) result run.new.state run.new.turns }
+    ensures says { Says (all_passed setting.now.structs.now parameters.now (map (seen (setting_of setting.now) (callees_in (C.reach calls.now) setting.now)) arguments.now) run.old.state run.old.turns) result run.new.state run.new.turns }
     ensures turns { run.new.turns ≤ run.old.turns }
 {
     let mut list = wg_words::Items::new(setting.alloc);
@@ -390,6 +375,22 @@ fn pass_all<C: Calls>(
     Ok(list)
 }
 
+/// The function of a number, if calls reach it.
+#[tactic(auto, using(crate::proofs::Callees::got_within, crate::proofs::Callees::got_beyond))]
+fn callee<'a, C: Calls>(
+    setting: &Setting<'a>,
+    calls: &C,
+    function: u32,
+) -> Option<&'a TypedFunction>
+    ensures { option_copied result ≡ slice_get (take (C.reach calls.now) setting.now.earlier.now) function }
+{
+    if calls.reaches(function) {
+        setting.earlier.get(function as usize)
+    } else {
+        None
+    }
+}
+
 /// A call: its arguments, the function, and the copies back.
 #[cycle(expr)]
 pub fn call<C: Calls>(
@@ -399,13 +400,13 @@ pub fn call<C: Calls>(
     arguments: &Items<TypedExpr>,
     run: &mut Run,
 ) -> Result<Words, Halt>
-    ensures says { Says (called setting.now.structs.now (callee_at (callees_in setting.now) function) (map (seen (setting_of setting.now) (callees_in setting.now)) arguments.now) run.old.state run.old.turns) result run.new.state run.new.turns }
+    ensures says { Says (called setting.now.structs.now (callee_at (callees_in (C.reach calls.now) setting.now) function) (map (seen (setting_of setting.now) (callees_in (C.reach calls.now) setting.now)) arguments.now) run.old.state run.old.turns) result run.new.state run.new.turns }
     ensures turns { run.new.turns ≤ run.old.turns }
 {
-    if (function as usize) >= setting.earlier.len() {
-        return Ok(Words::new(setting.alloc));
-    }
-    let callee = &setting.earlier[function as usize];
+    let callee = match callee(setting, calls, function) {
+        Some(callee) => callee,
+        None => return Ok(Words::new(setting.alloc)),
+    };
     let given = match pass_all(setting, calls, &callee.parameters, arguments, run) {
         Ok(given) => given,
         Err(halt) => return Err(halt),
@@ -419,6 +420,151 @@ pub fn call<C: Calls>(
     Ok(result)
 }
 
+/// An element of a structured buffer.
+#[cycle(expr)]
+fn buffer_element<C: Calls>(
+    setting: &Setting<'_>,
+    calls: &C,
+    buffer: u32,
+    index: &Boxed<TypedExpr>,
+    t: TypeTree,
+    run: &mut Run,
+) -> Result<Spot, Halt>
+    ensures says { Says (kind_step (setting_of setting.now) (callees_in (C.reach calls.now) setting.now) (TypedKind-F.Element buffer (seen (setting_of setting.now) (callees_in (C.reach calls.now) setting.now) index.now)) t run.old.state run.old.turns) result run.new.state run.new.turns }
+    ensures turns { run.new.turns ≤ run.old.turns }
+{
+    let at = match value(setting, calls, index.get(), run) {
+        Ok(words) => word_at(words.as_slice(), 0),
+        Err(halt) => return Err(halt),
+    };
+    let words = setting.structs.words(t)?;
+    Ok(buffer_place(buffer, words, at, &run.state)?)
+}
+
+/// Words of a raw buffer, from an address in bytes on.
+#[cycle(expr)]
+fn load<C: Calls>(
+    setting: &Setting<'_>,
+    calls: &C,
+    buffer: u32,
+    address: &Boxed<TypedExpr>,
+    t: TypeTree,
+    run: &mut Run,
+) -> Result<Spot, Halt>
+    ensures says { Says (kind_step (setting_of setting.now) (callees_in (C.reach calls.now) setting.now) (TypedKind-F.Load buffer (seen (setting_of setting.now) (callees_in (C.reach calls.now) setting.now) address.now)) t run.old.state run.old.turns) result run.new.state run.new.turns }
+    ensures turns { run.new.turns ≤ run.old.turns }
+{
+    let at = match value(setting, calls, address.get(), run) {
+        Ok(words) => word_at(words.as_slice(), 0),
+        Err(halt) => return Err(halt),
+    };
+    let words = raw_words(setting, t, buffer, at, &run.state)?;
+    Ok(Spot::Value { words })
+}
+
+/// Whether an element of an output has a unit to which it sends.
+#[cycle(expr)]
+fn is_valid<C: Calls>(
+    setting: &Setting<'_>,
+    calls: &C,
+    output: u32,
+    element: &Option<Boxed<TypedExpr>>,
+    t: TypeTree,
+    run: &mut Run,
+) -> Result<Spot, Halt>
+    ensures says { Says (kind_step (setting_of setting.now) (callees_in (C.reach calls.now) setting.now) (TypedKind-F.IsValid output (option_map (seen (setting_of setting.now) (callees_in (C.reach calls.now) setting.now)) element.now)) t run.old.state run.old.turns) result run.new.state run.new.turns }
+    ensures turns { run.new.turns ≤ run.old.turns }
+{
+    let at = match index(setting, calls, element, run) {
+        Ok(at) => at,
+        Err(halt) => return Err(halt),
+    };
+    let valid = target(setting.outputs, output, at).is_some();
+    Ok(one_word(setting, truth_word(valid))?)
+}
+
+/// An operator before an expression.
+#[cycle(expr)]
+fn prefix<C: Calls>(
+    setting: &Setting<'_>,
+    calls: &C,
+    operator: PrefixOperator,
+    operand: &Boxed<TypedExpr>,
+    t: TypeTree,
+    run: &mut Run,
+) -> Result<Spot, Halt>
+    ensures says { Says (kind_step (setting_of setting.now) (callees_in (C.reach calls.now) setting.now) (TypedKind-F.Prefix operator (seen (setting_of setting.now) (callees_in (C.reach calls.now) setting.now) operand.now)) t run.old.state run.old.turns) result run.new.state run.new.turns }
+    ensures turns { run.new.turns ≤ run.old.turns }
+{
+    let words = match value(setting, calls, operand.get(), run) {
+        Ok(words) => words,
+        Err(halt) => return Err(halt),
+    };
+    let words = prefix_all(setting.alloc, operator, scalar(t), words.as_slice())?;
+    Ok(Spot::Value { words })
+}
+
+/// A value as one of another type.
+#[cycle(expr)]
+fn converted<C: Calls>(
+    setting: &Setting<'_>,
+    calls: &C,
+    operand: &Boxed<TypedExpr>,
+    t: TypeTree,
+    run: &mut Run,
+) -> Result<Spot, Halt>
+    ensures says { Says (kind_step (setting_of setting.now) (callees_in (C.reach calls.now) setting.now) (TypedKind-F.Convert (seen (setting_of setting.now) (callees_in (C.reach calls.now) setting.now) operand.now)) t run.old.state run.old.turns) result run.new.state run.new.turns }
+    ensures turns { run.new.turns ≤ run.old.turns }
+{
+    let words = match value(setting, calls, operand.get(), run) {
+        Ok(words) => words,
+        Err(halt) => return Err(halt),
+    };
+    let words = convert(setting.alloc, operand.get().of, t, words.as_slice())?;
+    Ok(Spot::Value { words })
+}
+
+/// A value from the values of its parts.
+#[cycle(expr)]
+fn construct<C: Calls>(
+    setting: &Setting<'_>,
+    calls: &C,
+    parts: &Items<TypedExpr>,
+    t: TypeTree,
+    run: &mut Run,
+) -> Result<Spot, Halt>
+    ensures says { Says (kind_step (setting_of setting.now) (callees_in (C.reach calls.now) setting.now) (TypedKind-F.Construct (map (seen (setting_of setting.now) (callees_in (C.reach calls.now) setting.now)) parts.now)) t run.old.state run.old.turns) result run.new.state run.new.turns }
+    ensures turns { run.new.turns ≤ run.old.turns }
+{
+    let given = match values(setting, calls, parts, run) {
+        Ok(given) => given,
+        Err(halt) => return Err(halt),
+    };
+    let words = put_all(setting.alloc, &given)?;
+    Ok(Spot::Value { words })
+}
+
+/// A call of the language on numbers.
+#[cycle(expr)]
+fn numeric_call<C: Calls>(
+    setting: &Setting<'_>,
+    calls: &C,
+    name: Intrinsic,
+    arguments: &Items<TypedExpr>,
+    t: TypeTree,
+    run: &mut Run,
+) -> Result<Spot, Halt>
+    ensures says { Says (kind_step (setting_of setting.now) (callees_in (C.reach calls.now) setting.now) (TypedKind-F.Intrinsic name (map (seen (setting_of setting.now) (callees_in (C.reach calls.now) setting.now)) arguments.now)) t run.old.state run.old.turns) result run.new.state run.new.turns }
+    ensures turns { run.new.turns ≤ run.old.turns }
+{
+    let given = match values(setting, calls, arguments, run) {
+        Ok(given) => given,
+        Err(halt) => return Err(halt),
+    };
+    let words = intrinsic(setting.alloc, name, scalar(t), &given)?;
+    Ok(Spot::Value { words })
+}
+
 /// What an expression of a kind gives, by its type.
 #[cycle(expr)]
 fn kind<C: Calls>(
@@ -428,46 +574,22 @@ fn kind<C: Calls>(
     t: TypeTree,
     run: &mut Run,
 ) -> Result<Spot, Halt>
-    ensures says { Says (kind_does (setting_of setting.now) (callees_in setting.now) kind.now t run.old.state run.old.turns) result run.new.state run.new.turns }
+    ensures says { Says (kind_does (setting_of setting.now) (callees_in (C.reach calls.now) setting.now) kind.now t run.old.state run.old.turns) result run.new.state run.new.turns }
     ensures turns { run.new.turns ≤ run.old.turns }
 {
     match kind {
-        TypedKind::Literal { words } => {
-            let words = Words::from_slice(setting.alloc, words.as_slice())?;
-            Ok(Spot::Value { words })
-        }
-        TypedKind::Local { local } => Ok(Spot::At {
-            store: Store::Local { local: *local },
-            from: 0,
-        }),
-        TypedKind::Parameter { parameter } => Ok(Spot::At {
-            store: Store::Parameter {
-                parameter: *parameter,
-            },
-            from: 0,
-        }),
-        TypedKind::Shared { variable } => Ok(Spot::At {
-            store: Store::Shared {
-                variable: *variable,
-            },
-            from: 0,
-        }),
-        TypedKind::Element { buffer, index } => {
-            let at = match value(setting, calls, index.get(), run) {
-                Ok(words) => word_at(words.as_slice(), 0),
-                Err(halt) => return Err(halt),
-            };
-            let words = size(setting.alloc, setting.structs, t)?;
-            Ok(buffer_place(*buffer, words, at, &run.state)?)
-        }
-        TypedKind::Load { buffer, address } => {
-            let at = match value(setting, calls, address.get(), run) {
-                Ok(words) => word_at(words.as_slice(), 0),
-                Err(halt) => return Err(halt),
-            };
-            let words = raw_words(setting, t, *buffer, at, &run.state)?;
-            Ok(Spot::Value { words })
-        }
+        TypedKind::Literal { words } => Ok(literal(setting, words)?),
+        TypedKind::Local { local } => Ok(whole(Store::Local { local: *local })),
+        TypedKind::Parameter { parameter } => Ok(whole(Store::Parameter {
+            parameter: *parameter,
+        })),
+        TypedKind::Shared { variable } => Ok(whole(Store::Shared {
+            variable: *variable,
+        })),
+        TypedKind::Element { buffer, index } => buffer_element(
+            setting, calls, *buffer, index, t, run,
+        ),
+        TypedKind::Load { buffer, address } => load(setting, calls, *buffer, address, t, run),
         TypedKind::Input { index: at } => match index(setting, calls, at, run) {
             Ok(at) => Ok(input_place(at, &run.state)),
             Err(halt) => Err(halt),
@@ -477,49 +599,23 @@ fn kind<C: Calls>(
             Ok(at) => Ok(handle_place(setting, *handle, at, &run.state)),
             Err(halt) => Err(halt),
         },
-        TypedKind::IsValid {
-            output,
-            element: at,
-        } => match index(setting, calls, at, run) {
-            Ok(at) => Ok(one_word(
-                setting,
-                truth_word(target(setting.outputs, *output, at).is_some()),
-            )?),
-            Err(halt) => Err(halt),
-        },
+        TypedKind::IsValid { output, element } => is_valid(
+            setting, calls, *output, element, t, run,
+        ),
         TypedKind::Levels => Ok(one_word(setting, setting.level)?),
-        TypedKind::Zeros => {
-            let count = size(setting.alloc, setting.structs, t)?;
-            let words = zero_words(setting.alloc, count)?;
-            Ok(Spot::Value { words })
-        }
+        TypedKind::Zeros => Ok(zeros_of(setting, t)?),
         TypedKind::Access { base, forms } => match spot(setting, calls, base.get(), run) {
             Ok(at) => follow(setting, calls, forms, base.get().of, at, run),
             Err(halt) => Err(halt),
         },
-        TypedKind::Prefix { operator, operand } => {
-            let words = match value(setting, calls, operand.get(), run) {
-                Ok(words) => words,
-                Err(halt) => return Err(halt),
-            };
-            let words = prefix_all(setting.alloc, *operator, scalar(t), words.as_slice())?;
-            Ok(Spot::Value { words })
-        }
-        TypedKind::Convert { operand } => {
-            let words = match value(setting, calls, operand.get(), run) {
-                Ok(words) => words,
-                Err(halt) => return Err(halt),
-            };
-            let words = convert(setting.alloc, operand.get().of, t, words.as_slice())?;
-            Ok(Spot::Value { words })
-        }
-        TypedKind::Chain { first, rest } => {
-            let words = match value(setting, calls, first.get(), run) {
-                Ok(words) => words,
-                Err(halt) => return Err(halt),
-            };
-            as_spot(chain(setting, calls, rest, first.get().of, words, run))
-        }
+        TypedKind::Prefix { operator, operand } => prefix(
+            setting, calls, *operator, operand, t, run,
+        ),
+        TypedKind::Convert { operand } => converted(setting, calls, operand, t, run),
+        TypedKind::Chain { first, rest } => match value(setting, calls, first.get(), run) {
+            Ok(words) => as_spot(chain(setting, calls, rest, first.get().of, words, run)),
+            Err(halt) => Err(halt),
+        },
         TypedKind::Choice { test, then, other } => {
             let c = match value(setting, calls, test.get(), run) {
                 Ok(words) => word_at(words.as_slice(), 0),
@@ -531,27 +627,38 @@ fn kind<C: Calls>(
                 as_spot(value(setting, calls, other.get(), run))
             }
         }
-        TypedKind::Construct { parts } => {
-            let parts = match values(setting, calls, parts, run) {
-                Ok(parts) => parts,
-                Err(halt) => return Err(halt),
-            };
-            let words = put_all(setting.alloc, &parts)?;
-            Ok(Spot::Value { words })
-        }
+        TypedKind::Construct { parts } => construct(setting, calls, parts, t, run),
         TypedKind::Call {
             function,
             arguments,
         } => as_spot(call(setting, calls, *function, arguments, run)),
-        TypedKind::Intrinsic { call, arguments } => {
-            let given = match values(setting, calls, arguments, run) {
-                Ok(given) => given,
-                Err(halt) => return Err(halt),
-            };
-            let words = call_intrinsic(setting.alloc, *call, scalar(t), &given)?;
-            Ok(Spot::Value { words })
-        }
+        TypedKind::Intrinsic {
+            call: name,
+            arguments,
+        } => numeric_call(setting, calls, *name, arguments, t, run),
     }
+}
+
+/// A copy of words.
+fn literal(setting: &Setting<'_>, words: &Words) -> Result<Spot, AllocError>
+    ensures { IfOk result (λ p. p ≡ spot.Value words.now) }
+{
+    let words = Words::from_slice(setting.alloc, words.as_slice())?;
+    Ok(Spot::Value { words })
+}
+
+/// All words of a store.
+fn whole(store: Store) -> Spot
+    ensures { result ≡ spot.At store 0 }
+{
+    Spot::At { store, from: 0 }
+}
+
+fn zeros_of(setting: &Setting<'_>, t: TypeTree) -> Result<Spot, AllocError>
+    ensures { IfOk result (λ p. p ≡ spot.Value (zeros (words_of setting.now.structs.now t))) }
+{
+    let words = zero_value(setting.alloc, setting.structs, t)?;
+    Ok(Spot::Value { words })
 }
 
 fn one_word(setting: &Setting<'_>, word: Word) -> Result<Spot, AllocError>

@@ -1,21 +1,17 @@
-ghost use Rattle.std.specs.Prelude.{◌≡◌, ◌≤◌, IfOk};
+ghost use Rattle.std.specs.Prelude.{◌≡◌, ◌≤◌, ◌<◌, suc, IfOk, OnSome, length, take, slice_get};
 ghost use Rattle.wg_tree.specs.Calls.{callee_at, on_world};
 ghost use Rattle.wg_tree.specs.FunctionMeaning.{result_words, result_of, function_does};
-ghost use Rattle.wg_tree.specs.StmtMeaning.{body_does};
-ghost use Rattle.wg_meaning.specs.Pieces.{setting_of};
+ghost use Rattle.wg_values.specs.Pieces.{setting_of};
+ghost use Rattle.std.specs.Option.{option_copied};
 ghost use Rattle.wg_meaning.specs.Says.{Says, callees_in};
 
 use crate::calls::{Calls, Run};
 use crate::halt::Halt;
-use crate::layout::size;
-use crate::place::Setting;
-use crate::start::fresh;
 use crate::stmt::block;
-use crate::words::zero_words;
-use sqlite_items::Boxed;
-use std::alloc::{AllocError, Global};
+use std::alloc::AllocError;
 use std::mem;
-use wg_tree::{Flow, Frame, TypeTree, TypedFunction, TypedStmt};
+use wg_tree::{Flow, Frame, TypeTree, TypedFunction};
+use wg_values::{Setting, fresh, zero_words};
 use wg_words::{WordLists, Words};
 
 /// The words of a function's result; `void` has none.
@@ -24,7 +20,7 @@ fn result_size(setting: &Setting<'_>, of: Option<TypeTree>) -> Result<u64, Alloc
 {
     match of {
         None => Ok(0),
-        Some(t) => size(setting.alloc, setting.structs, t),
+        Some(t) => setting.structs.words(t),
     }
 }
 
@@ -49,7 +45,7 @@ fn function<C: Calls>(
     values: WordLists,
     run: &mut Run,
 ) -> Result<(Words, WordLists), Halt>
-    ensures says { Says (on_world (function_does (setting_of setting.now) (callees_in setting.now) f.now values) run.old.state run.old.turns) result run.new.state run.new.turns }
+    ensures says { Says (on_world (function_does (setting_of setting.now) (callees_in (C.reach calls.now) setting.now) f.now values) run.old.state run.old.turns) result run.new.state run.new.turns }
     ensures turns { run.new.turns ≤ run.old.turns }
 {
     let locals = fresh(setting.alloc, setting.structs, f.locals.as_slice())?;
@@ -67,63 +63,41 @@ fn function<C: Calls>(
     Ok((words, frame.parameters))
 }
 
+/// The function of a number, where calls reach one more than those that it may call itself.
+#[tactic(auto, using(crate::proofs::Callees::got_within, crate::proofs::Callees::got_beyond))]
+fn next_callee<'a, C: Calls>(
+    setting: &Setting<'a>,
+    calls: &C,
+    number: u32,
+) -> Option<&'a TypedFunction>
+    ensures value { option_copied result ≡ slice_get (take (suc (C.reach calls.now)) setting.now.earlier.now) number }
+    ensures within { OnSome result (number < length setting.now.earlier.now) }
+{
+    if number == 0 || calls.reaches(number - 1) {
+        setting.earlier.get(number as usize)
+    } else {
+        None
+    }
+}
+
 /// Runs a function by its number; it may call only those before it.
-fn numbered<C: Calls>(
+pub fn numbered<C: Calls>(
     setting: &Setting<'_>,
     calls: &C,
     number: u32,
     values: WordLists,
     run: &mut Run,
 ) -> Result<(Words, WordLists), Halt>
-    ensures says { Says (on_world ((callee_at (callees_in setting.now) number).does values) run.old.state run.old.turns) result run.new.state run.new.turns }
+    ensures says { Says (on_world ((callee_at (callees_in (suc (C.reach calls.now)) setting.now) number).does values) run.old.state run.old.turns) result run.new.state run.new.turns }
     ensures turns { run.new.turns ≤ run.old.turns }
 {
-    if (number as usize) >= setting.earlier.len() {
-        return Ok((Words::new(setting.alloc), WordLists::new(setting.alloc)));
-    }
-    let f = &setting.earlier[number as usize];
+    let f = match next_callee(setting, calls, number) {
+        Some(f) => f,
+        None => return Ok((Words::new(setting.alloc), WordLists::new(setting.alloc))),
+    };
     let inner = Setting {
         earlier: &setting.earlier[..number as usize],
         ..*setting
     };
     function(&inner, calls, f, values, run)
-}
-
-/// How deep calls may nest.
-#[derive(Drop)]
-pub enum Depth {
-    None,
-    Below(Boxed<Depth>),
-}
-
-impl Calls for Depth {
-    fn call(
-        &self,
-        setting: &Setting<'_>,
-        function: u32,
-        values: WordLists,
-        run: &mut Run,
-    ) -> Result<(Words, WordLists), Halt> {
-        match self {
-            Depth::None => Err(Halt::Depth),
-            Depth::Below(depth) => numbered(setting, depth.get(), function, values, run),
-        }
-    }
-}
-
-fn depth_of(alloc: Global, count: usize) -> Result<Depth, AllocError> {
-    let mut depth = Depth::None;
-    for _ in 0..count {
-        depth = Depth::Below(Boxed::new(alloc, depth)?);
-    }
-    Ok(depth)
-}
-
-/// Runs statements of the entry function. A function calls only those before it, so calls nest no deeper than there are
-/// functions.
-pub fn body(setting: &Setting<'_>, body: &[TypedStmt], run: &mut Run) -> Result<Flow, Halt>
-    ensures { Says (body_does (setting_of setting.now) (callees_in setting.now) body.now run.old.state run.old.turns) result run.new.state run.new.turns }
-{
-    let depth = depth_of(setting.alloc, setting.earlier.len())?;
-    block(setting, &depth, body, run)
 }

@@ -3,12 +3,11 @@ ghost use Rattle.wg_meaning.specs.declared.halt.Halt.TheVariants as halt;
 
 use std::alloc::AllocError;
 
-/// Why a computation does not end: its turns are spent, there is no memory, or calls nest deeper than it follows them.
+/// Why a computation does not end: its turns are spent, or there is no memory.
 #[derive(Clone, Copy, Debug, PartialEq, Eq)]
 pub enum Halt {
     Turns,
     Memory,
-    Depth,
 }
 
 impl From<AllocError> for Halt {

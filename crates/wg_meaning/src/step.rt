@@ -1,25 +1,23 @@
-ghost use Rattle.std.specs.Prelude.{◌≡◌, ◌≤◌, ◌/◌, [], ◌∷◌, IfOk, map};
+ghost use Rattle.std.specs.Prelude.{◌≡◌, ◌≤◌, ◌/◌, IfOk};
 ghost use Rattle.wg_tree.specs.declared.state.Store.TheVariants as store;
 ghost use Rattle.wg_tree.specs.declared.state.Spot.TheVariants as spot;
-ghost use Rattle.wg_tree.specs.Turns.{Done};
 ghost use Rattle.wg_tree.specs.ExprMeaning.{seen};
-ghost use Rattle.wg_tree.specs.StepMeaning.{assigned, updated, changed, raw_stored, exchanged, signedness, destination_of, maybe_word, maybe_spot, word_at, interlocked, step_does, steps_do, start_value, declared_as, all_declared, started};
-ghost use Rattle.wg_meaning.specs.Pieces.{setting_of};
+ghost use Rattle.wg_tree.specs.StepMeaning.{assigned, updated, changed, raw_stored, exchanged, signedness, destination_of, maybe_word, maybe_spot, word_at as word_there, interlocked, step_does, steps_do, start_value, declared_as, all_declared, started};
+ghost use Rattle.wg_values.specs.Pieces.{setting_of};
 ghost use Rattle.wg_meaning.specs.Says.{Says, callees_in, raw_destination_of};
 
 use crate::calls::{Calls, Run};
 use crate::expr::{call, spot, value, word};
 use crate::halt::Halt;
-use crate::intrinsics::{greater, lesser};
-use crate::layout::size;
-use crate::operators::{combine_all, convert, scalar, step_all};
-use crate::place::{Setting, fetch, write};
-use crate::words::{word as word_of_list, zero_words};
 use sqlite_items::Items;
 use std::alloc::AllocError;
 use wg_tree::{
     BinaryOperator, Destination, Interlocked, InterlockedForm, Scalar, Spot, State, StepOperator,
     Store, TypeTree, TypedDeclarator, TypedExpr, TypedStart, TypedStep,
+};
+use wg_values::{
+    Setting, combine_all, convert, fetch, greater, lesser, scalar, step_all, word_at, write,
+    zero_value,
 };
 use wg_words::{Word, Words, add};
 
@@ -30,7 +28,7 @@ fn assign<C: Calls>(
     e: &TypedExpr,
     run: &mut Run,
 ) -> Result<(), Halt>
-    ensures says { Says (assigned (setting_of setting.now) (seen (setting_of setting.now) (callees_in setting.now) target.now) (seen (setting_of setting.now) (callees_in setting.now) e.now) run.old.state run.old.turns) result run.new.state run.new.turns }
+    ensures says { Says (assigned (setting_of setting.now) (seen (setting_of setting.now) (callees_in (C.reach calls.now) setting.now) target.now) (seen (setting_of setting.now) (callees_in (C.reach calls.now) setting.now) e.now) run.old.state run.old.turns) result run.new.state run.new.turns }
     ensures turns { run.new.turns ≤ run.old.turns }
 {
     let at = match spot(setting, calls, target, run) {
@@ -55,7 +53,7 @@ fn update<C: Calls>(
     e: &TypedExpr,
     run: &mut Run,
 ) -> Result<(), Halt>
-    ensures says { Says (updated (setting_of setting.now) (seen (setting_of setting.now) (callees_in setting.now) target.now) operator by (seen (setting_of setting.now) (callees_in setting.now) e.now) run.old.state run.old.turns) result run.new.state run.new.turns }
+    ensures says { Says (updated (setting_of setting.now) (seen (setting_of setting.now) (callees_in (C.reach calls.now) setting.now) target.now) operator by (seen (setting_of setting.now) (callees_in (C.reach calls.now) setting.now) e.now) run.old.state run.old.turns) result run.new.state run.new.turns }
     ensures turns { run.new.turns ≤ run.old.turns }
 {
     let at = match spot(setting, calls, target, run) {
@@ -88,7 +86,7 @@ fn change<C: Calls>(
     operator: StepOperator,
     run: &mut Run,
 ) -> Result<(), Halt>
-    ensures says { Says (changed (setting_of setting.now) (seen (setting_of setting.now) (callees_in setting.now) target.now) operator run.old.state run.old.turns) result run.new.state run.new.turns }
+    ensures says { Says (changed (setting_of setting.now) (seen (setting_of setting.now) (callees_in (C.reach calls.now) setting.now) target.now) operator run.old.state run.old.turns) result run.new.state run.new.turns }
     ensures turns { run.new.turns ≤ run.old.turns }
 {
     let at = match spot(setting, calls, target, run) {
@@ -119,7 +117,7 @@ fn raw_store<C: Calls>(
     e: &TypedExpr,
     run: &mut Run,
 ) -> Result<(), Halt>
-    ensures says { Says (raw_stored (setting_of setting.now) buffer (seen (setting_of setting.now) (callees_in setting.now) address.now) (seen (setting_of setting.now) (callees_in setting.now) e.now) run.old.state run.old.turns) result run.new.state run.new.turns }
+    ensures says { Says (raw_stored (setting_of setting.now) buffer (seen (setting_of setting.now) (callees_in (C.reach calls.now) setting.now) address.now) (seen (setting_of setting.now) (callees_in (C.reach calls.now) setting.now) e.now) run.old.state run.old.turns) result run.new.state run.new.turns }
     ensures turns { run.new.turns ≤ run.old.turns }
 {
     let at = match word(setting, calls, address, run) {
@@ -169,7 +167,7 @@ fn destination<C: Calls>(
     destination: &Destination,
     run: &mut Run,
 ) -> Result<Spot, Halt>
-    ensures says { Says (destination_of (setting_of setting.now) (callees_in setting.now) destination.now run.old.state run.old.turns) result run.new.state run.new.turns }
+    ensures says { Says (destination_of (setting_of setting.now) (callees_in (C.reach calls.now) setting.now) destination.now run.old.state run.old.turns) result run.new.state run.new.turns }
     ensures turns { run.new.turns ≤ run.old.turns }
 {
     match destination {
@@ -187,7 +185,7 @@ fn raw_destination<C: Calls>(
     address: &TypedExpr,
     run: &mut Run,
 ) -> Result<Spot, Halt>
-    ensures says { Says (raw_destination_of (setting_of setting.now) buffer (seen (setting_of setting.now) (callees_in setting.now) address.now) run.old.state run.old.turns) result run.new.state run.new.turns }
+    ensures says { Says (raw_destination_of (setting_of setting.now) buffer (seen (setting_of setting.now) (callees_in (C.reach calls.now) setting.now) address.now) run.old.state run.old.turns) result run.new.state run.new.turns }
     ensures turns { run.new.turns ≤ run.old.turns }
 {
     match word(setting, calls, address, run) {
@@ -203,7 +201,7 @@ pub fn optional_word<C: Calls>(
     e: &Option<TypedExpr>,
     run: &mut Run,
 ) -> Result<Word, Halt>
-    ensures says { Says (maybe_word (setting_of setting.now) (callees_in setting.now) e.now run.old.state run.old.turns) result run.new.state run.new.turns }
+    ensures says { Says (maybe_word (setting_of setting.now) (callees_in (C.reach calls.now) setting.now) e.now run.old.state run.old.turns) result run.new.state run.new.turns }
     ensures turns { run.new.turns ≤ run.old.turns }
 {
     match e {
@@ -218,7 +216,7 @@ fn optional_spot<C: Calls>(
     e: &Option<TypedExpr>,
     run: &mut Run,
 ) -> Result<Spot, Halt>
-    ensures says { Says (maybe_spot (setting_of setting.now) (callees_in setting.now) e.now run.old.state run.old.turns) result run.new.state run.new.turns }
+    ensures says { Says (maybe_spot (setting_of setting.now) (callees_in (C.reach calls.now) setting.now) e.now run.old.state run.old.turns) result run.new.state run.new.turns }
     ensures turns { run.new.turns ≤ run.old.turns }
 {
     match e {
@@ -228,15 +226,12 @@ fn optional_spot<C: Calls>(
 }
 
 /// One word where it stands; 0 outside.
+#[tactic(auto, using(crate::proofs::Words::word_same))]
 fn one_word(setting: &Setting<'_>, at: &Spot, state: &State) -> Result<Word, AllocError>
-    ensures { IfOk result (λ w. w ≡ word_at at.now state.now) }
+    ensures { IfOk result (λ w. w ≡ word_there at.now state.now) }
 {
-    let bare = Setting {
-        structs: &[],
-        ..*setting
-    };
-    let words = fetch(&bare, TypeTree::Scalar { of: Scalar::Uint }, at, state)?;
-    Ok(word_of_list(words.as_slice(), 0))
+    let words = fetch(setting, TypeTree::Scalar { of: Scalar::Uint }, at, state)?;
+    Ok(word_at(words.as_slice(), 0))
 }
 
 /// An interlocked form: its places and words from left to right, then the change, then the old word.
@@ -246,7 +241,7 @@ fn interlock<C: Calls>(
     i: &Interlocked,
     run: &mut Run,
 ) -> Result<(), Halt>
-    ensures says { Says (interlocked (setting_of setting.now) (callees_in setting.now) i.now run.old.state run.old.turns) result run.new.state run.new.turns }
+    ensures says { Says (interlocked (setting_of setting.now) (callees_in (C.reach calls.now) setting.now) i.now run.old.state run.old.turns) result run.new.state run.new.turns }
     ensures turns { run.new.turns ≤ run.old.turns }
 {
     let at = match destination(setting, calls, &i.destination, run) {
@@ -279,7 +274,7 @@ pub fn step<C: Calls>(
     step: &TypedStep,
     run: &mut Run,
 ) -> Result<(), Halt>
-    ensures says { Says (step_does (setting_of setting.now) (callees_in setting.now) step.now run.old.state run.old.turns) result run.new.state run.new.turns }
+    ensures says { Says (step_does (setting_of setting.now) (callees_in (C.reach calls.now) setting.now) step.now run.old.state run.old.turns) result run.new.state run.new.turns }
     ensures turns { run.new.turns ≤ run.old.turns }
 {
     match step {
@@ -318,7 +313,7 @@ pub fn steps<C: Calls>(
     list: &Items<TypedStep>,
     run: &mut Run,
 ) -> Result<(), Halt>
-    ensures says { Says (steps_do (setting_of setting.now) (callees_in setting.now) list.now run.old.state run.old.turns) result run.new.state run.new.turns }
+    ensures says { Says (steps_do (setting_of setting.now) (callees_in (C.reach calls.now) setting.now) list.now run.old.state run.old.turns) result run.new.state run.new.turns }
     ensures turns { run.new.turns ≤ run.old.turns }
 {
     for s in list.as_slice() {
@@ -338,15 +333,12 @@ fn start_words<C: Calls>(
     e: &Option<TypedExpr>,
     run: &mut Run,
 ) -> Result<Words, Halt>
-    ensures says { Says (start_value (setting_of setting.now) (callees_in setting.now) t e.now run.old.state run.old.turns) result run.new.state run.new.turns }
+    ensures says { Says (start_value (setting_of setting.now) (callees_in (C.reach calls.now) setting.now) t e.now run.old.state run.old.turns) result run.new.state run.new.turns }
     ensures turns { run.new.turns ≤ run.old.turns }
 {
     match e {
         Some(e) => value(setting, calls, e, run),
-        None => {
-            let count = size(setting.alloc, setting.structs, t)?;
-            Ok(zero_words(setting.alloc, count)?)
-        }
+        None => Ok(zero_value(setting.alloc, setting.structs, t)?),
     }
 }
 
@@ -356,7 +348,7 @@ fn declare<C: Calls>(
     d: &TypedDeclarator,
     run: &mut Run,
 ) -> Result<(), Halt>
-    ensures says { Says (declared_as (setting_of setting.now) (callees_in setting.now) d.now run.old.state run.old.turns) result run.new.state run.new.turns }
+    ensures says { Says (declared_as (setting_of setting.now) (callees_in (C.reach calls.now) setting.now) d.now run.old.state run.old.turns) result run.new.state run.new.turns }
     ensures turns { run.new.turns ≤ run.old.turns }
 {
     let words = match start_words(setting, calls, d.of, &d.value, run) {
@@ -378,7 +370,7 @@ pub fn declare_all<C: Calls>(
     list: &Items<TypedDeclarator>,
     run: &mut Run,
 ) -> Result<(), Halt>
-    ensures says { Says (all_declared (setting_of setting.now) (callees_in setting.now) list.now run.old.state run.old.turns) result run.new.state run.new.turns }
+    ensures says { Says (all_declared (setting_of setting.now) (callees_in (C.reach calls.now) setting.now) list.now run.old.state run.old.turns) result run.new.state run.new.turns }
     ensures turns { run.new.turns ≤ run.old.turns }
 {
     for d in list.as_slice() {
@@ -397,7 +389,7 @@ pub fn start<C: Calls>(
     start: &Option<TypedStart>,
     run: &mut Run,
 ) -> Result<(), Halt>
-    ensures says { Says (started (setting_of setting.now) (callees_in setting.now) start.now run.old.state run.old.turns) result run.new.state run.new.turns }
+    ensures says { Says (started (setting_of setting.now) (callees_in (C.reach calls.now) setting.now) start.now run.old.state run.old.turns) result run.new.state run.new.turns }
     ensures turns { run.new.turns ≤ run.old.turns }
 {
     match start {

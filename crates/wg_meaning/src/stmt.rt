@@ -1,20 +1,19 @@
 ghost use Rattle.std.specs.Prelude.{◌≡◌, ◌≤◌, ◌<◌, OnOk, option_map};
 ghost use Rattle.wg_tree.specs.Turns.{Done, pure};
 ghost use Rattle.wg_tree.specs.ExprMeaning.{seen, word_of};
-ghost use Rattle.wg_tree.specs.StepMeaning.{steps_do};
+ghost use Rattle.wg_tree.specs.StepMeaning.{steps_do, started};
 ghost use Rattle.wg_tree.specs.StmtMeaning.{loop as looped, test_of, of_group, is_group_handle, asks, completes, maybe_else, returned, does, body_does};
-ghost use Rattle.wg_meaning.specs.Flows.{entered, goes_on as flow_goes_on, loop_left, next_result};
-ghost use Rattle.wg_meaning.specs.Pieces.{setting_of};
+ghost use Rattle.wg_meaning.specs.Flows.{begun, entered, goes_on as flow_goes_on, loop_left, next_result};
+ghost use Rattle.wg_values.specs.Pieces.{setting_of};
 ghost use Rattle.wg_meaning.specs.Says.{Says, callees_in};
 
 use crate::calls::{Calls, Run};
 use crate::expr::{value, word};
 use crate::halt::Halt;
-use crate::place::{Setting, grant};
-use crate::requests::{Request, ask, close};
 use crate::step::{declare_all, optional_word, start as begin, step, steps};
 use sqlite_items::{Boxed, Items};
-use wg_tree::{Flow, TypedExpr, TypedStep, TypedStmt};
+use wg_tree::{Flow, TypedExpr, TypedStart, TypedStep, TypedStmt};
+use wg_values::{Request, Setting, ask, close, grant};
 use wg_words::{Word, Words};
 
 fn goes_on(end: &Flow) -> bool
@@ -56,7 +55,7 @@ fn request<C: Calls>(
     amount: &TypedExpr,
     run: &mut Run,
 ) -> Result<(), Halt>
-    ensures says { Says (asks (setting_of setting.now) (callees_in setting.now) handle output element.now amount.now run.old.state run.old.turns) result run.new.state run.new.turns }
+    ensures says { Says (asks (setting_of setting.now) (callees_in (C.reach calls.now) setting.now) handle output element.now amount.now run.old.state run.old.turns) result run.new.state run.new.turns }
     ensures turns { run.new.turns ≤ run.old.turns }
 {
     let at = match optional_word(setting, calls, element, run) {
@@ -94,7 +93,7 @@ fn group_request<C: Calls>(
     amount: &TypedExpr,
     run: &mut Run,
 ) -> Result<(), Halt>
-    ensures says { Says (of_group (setting_of setting.now) group (asks (setting_of setting.now) (callees_in setting.now) handle output element.now amount.now) run.old.state run.old.turns) result run.new.state run.new.turns }
+    ensures says { Says (of_group (setting_of setting.now) group (asks (setting_of setting.now) (callees_in (C.reach calls.now) setting.now) handle output element.now amount.now) run.old.state run.old.turns) result run.new.state run.new.turns }
     ensures turns { run.new.turns ≤ run.old.turns }
 {
     if group && setting.lane != 0 {
@@ -130,7 +129,7 @@ fn give_back<C: Calls>(
     e: &Option<TypedExpr>,
     run: &mut Run,
 ) -> Result<Flow, Halt>
-    ensures says { Says (returned (setting_of setting.now) (callees_in setting.now) e.now run.old.state run.old.turns) result run.new.state run.new.turns }
+    ensures says { Says (returned (setting_of setting.now) (callees_in (C.reach calls.now) setting.now) e.now run.old.state run.old.turns) result run.new.state run.new.turns }
     ensures turns { run.new.turns ≤ run.old.turns }
 {
     match e {
@@ -151,7 +150,7 @@ fn test<C: Calls>(
     e: &Option<TypedExpr>,
     run: &mut Run,
 ) -> Result<Word, Halt>
-    ensures says { Says (test_of (setting_of setting.now) (callees_in setting.now) e.now run.old.state run.old.turns) result run.new.state run.new.turns }
+    ensures says { Says (test_of (setting_of setting.now) (callees_in (C.reach calls.now) setting.now) e.now run.old.state run.old.turns) result run.new.state run.new.turns }
     ensures turns { run.new.turns ≤ run.old.turns }
 {
     match e {
@@ -168,7 +167,7 @@ pub fn block<C: Calls>(
     body: &[TypedStmt],
     run: &mut Run,
 ) -> Result<Flow, Halt>
-    ensures says { Says (body_does (setting_of setting.now) (callees_in setting.now) body.now run.old.state run.old.turns) result run.new.state run.new.turns }
+    ensures says { Says (body_does (setting_of setting.now) (callees_in (C.reach calls.now) setting.now) body.now run.old.state run.old.turns) result run.new.state run.new.turns }
     ensures turns { run.new.turns ≤ run.old.turns }
 {
     for s in body {
@@ -188,10 +187,10 @@ pub fn block<C: Calls>(
 fn enter<C: Calls>(
     setting: &Setting<'_>,
     calls: &C,
-    body: &TypedStmt,
+    body: &Boxed<TypedStmt>,
     run: &mut Run,
 ) -> Result<Flow, Halt>
-    ensures says { Says (entered (does (setting_of setting.now) (callees_in setting.now) body.now) run.old.state run.old.turns) result run.new.state run.new.turns }
+    ensures says { Says (entered (does (setting_of setting.now) (callees_in (C.reach calls.now) setting.now) body.now) run.old.state run.old.turns) result run.new.state run.new.turns }
     ensures turns { run.new.turns ≤ run.old.turns }
     ensures takes { OnOk result (run.new.turns < run.old.turns) }
 {
@@ -199,18 +198,18 @@ fn enter<C: Calls>(
         return Err(Halt::Turns);
     }
     run.turns -= 1;
-    stmt(setting, calls, body, run)
+    stmt(setting, calls, body.get(), run)
 }
 
 #[cycle(stmt)]
 fn while_loop<C: Calls>(
     setting: &Setting<'_>,
     calls: &C,
-    body: &TypedStmt,
+    body: &Boxed<TypedStmt>,
     e: &TypedExpr,
     run: &mut Run,
 ) -> Result<Flow, Halt>
-    ensures says { Says (looped (word_of (setting_of setting.now) (seen (setting_of setting.now) (callees_in setting.now) e.now)) (does (setting_of setting.now) (callees_in setting.now) body.now) (pure tt) run.old.state run.old.turns) result run.new.state run.new.turns }
+    ensures says { Says (looped (word_of (setting_of setting.now) (seen (setting_of setting.now) (callees_in (C.reach calls.now) setting.now) e.now)) (does (setting_of setting.now) (callees_in (C.reach calls.now) setting.now) body.now) (pure tt) run.old.state run.old.turns) result run.new.state run.new.turns }
     ensures turns { run.new.turns ≤ run.old.turns }
 {
     'turns: loop {
@@ -236,12 +235,12 @@ fn while_loop<C: Calls>(
 fn for_loop<C: Calls>(
     setting: &Setting<'_>,
     calls: &C,
-    body: &TypedStmt,
+    body: &Boxed<TypedStmt>,
     e: &Option<TypedExpr>,
     list: &Items<TypedStep>,
     run: &mut Run,
 ) -> Result<Flow, Halt>
-    ensures says { Says (looped (test_of (setting_of setting.now) (callees_in setting.now) e.now) (does (setting_of setting.now) (callees_in setting.now) body.now) (steps_do (setting_of setting.now) (callees_in setting.now) list.now) run.old.state run.old.turns) result run.new.state run.new.turns }
+    ensures says { Says (looped (test_of (setting_of setting.now) (callees_in (C.reach calls.now) setting.now) e.now) (does (setting_of setting.now) (callees_in (C.reach calls.now) setting.now) body.now) (steps_do (setting_of setting.now) (callees_in (C.reach calls.now) setting.now) list.now) run.old.state run.old.turns) result run.new.state run.new.turns }
     ensures turns { run.new.turns ≤ run.old.turns }
 {
     'turns: loop {
@@ -274,13 +273,34 @@ fn other_branch<C: Calls>(
     other: &Option<Boxed<TypedStmt>>,
     run: &mut Run,
 ) -> Result<Flow, Halt>
-    ensures says { Says (maybe_else (option_map (does (setting_of setting.now) (callees_in setting.now)) other.now) run.old.state run.old.turns) result run.new.state run.new.turns }
+    ensures says { Says (maybe_else (option_map (does (setting_of setting.now) (callees_in (C.reach calls.now) setting.now)) other.now) run.old.state run.old.turns) result run.new.state run.new.turns }
     ensures turns { run.new.turns ≤ run.old.turns }
 {
     match other {
         Some(s) => stmt(setting, calls, s.get(), run),
         None => Ok(Flow::Next),
     }
+}
+
+/// A `for`: what it begins with, then its loop.
+#[cycle(stmt)]
+fn for_statement<C: Calls>(
+    setting: &Setting<'_>,
+    calls: &C,
+    start: &Option<TypedStart>,
+    test: &Option<TypedExpr>,
+    steps: &Items<TypedStep>,
+    body: &Boxed<TypedStmt>,
+    run: &mut Run,
+) -> Result<Flow, Halt>
+    ensures says { Says (begun (started (setting_of setting.now) (callees_in (C.reach calls.now) setting.now) start.now) (looped (test_of (setting_of setting.now) (callees_in (C.reach calls.now) setting.now) test.now) (does (setting_of setting.now) (callees_in (C.reach calls.now) setting.now) body.now) (steps_do (setting_of setting.now) (callees_in (C.reach calls.now) setting.now) steps.now)) run.old.state run.old.turns) result run.new.state run.new.turns }
+    ensures turns { run.new.turns ≤ run.old.turns }
+{
+    match begin(setting, calls, start, run) {
+        Ok(()) => (),
+        Err(halt) => return Err(halt),
+    }
+    for_loop(setting, calls, body, test, steps, run)
 }
 
 /// Runs one statement.
@@ -291,7 +311,7 @@ pub fn stmt<C: Calls>(
     s: &TypedStmt,
     run: &mut Run,
 ) -> Result<Flow, Halt>
-    ensures says { Says (does (setting_of setting.now) (callees_in setting.now) s.now run.old.state run.old.turns) result run.new.state run.new.turns }
+    ensures says { Says (does (setting_of setting.now) (callees_in (C.reach calls.now) setting.now) s.now run.old.state run.old.turns) result run.new.state run.new.turns }
     ensures turns { run.new.turns ≤ run.old.turns }
 {
     match s {
@@ -344,19 +364,13 @@ pub fn stmt<C: Calls>(
                 other_branch(setting, calls, other, run)
             }
         }
-        TypedStmt::While { test, body, .. } => while_loop(setting, calls, body.get(), test, run),
+        TypedStmt::While { test, body, .. } => while_loop(setting, calls, body, test, run),
         TypedStmt::For {
             start,
             test,
             steps,
             body,
             ..
-        } => {
-            match begin(setting, calls, start, run) {
-                Ok(()) => (),
-                Err(halt) => return Err(halt),
-            }
-            for_loop(setting, calls, body.get(), test, steps, run)
-        }
+        } => for_statement(setting, calls, start, test, steps, body, run),
     }
 }

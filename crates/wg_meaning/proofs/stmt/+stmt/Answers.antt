@@ -1,5 +1,5 @@
 use Rattle.std.proofs.Common.{arith, sym, subst, refl, ◌∙◌}
-use Rattle.wg_meaning.specs.Pieces.{setting_of}
+use Rattle.wg_values.specs.Pieces.{setting_of}
 use Rattle.wg_meaning.specs.Says.{Says, callees_in}
 use Rattle.wg_meaning.proofs.Branches.{if_stops, if_then, if_else, while_runs, for_runs}
 use Rattle.wg_meaning.proofs.Loops.{body_leaves, go_round}
@@ -33,33 +33,31 @@ while_loop-turns-preserved g t c = (
 
 pub stmt-returns-in-Err-clause-says : goal.stmt-returns-in-Err-clause-says
 stmt-returns-in-Err-clause-says g t c =
-    if_stops (setting_of c.args.setting.now) (callees_in c.args.setting.now) c.args.s.now c.args.run.now.state c.args.run.now.turns c.in-If.then c.in-If.then refl
+    if_stops (setting_of c.args.setting.now) (callees_in (g.C.Calls.reach c.args.calls.now) c.args.setting.now) c.args.s.now c.args.run.now.state c.args.run.now.turns c.in-If.then c.in-If.then refl
     c.in-If.attributes c.in-If.collective c.in-If.test c.in-If.other c.in-If.is c.in-Err.halt c.in-Err.ensures.says
 
 pub stmt-returns-then-c-ne0-clause-says : goal.stmt-returns-then-c-ne0-clause-says
 stmt-returns-then-c-ne0-clause-says g t c =
     subst (λ o. Says o c.stmt.result c.stmt.new.run.state c.stmt.new.run.turns)
-    (sym (if_then (setting_of c.args.setting.now) (callees_in c.args.setting.now) c.args.s.now c.args.run.now.state c.args.run.now.turns c.in-If.then c.get.result.now c.get.ensures
+    (sym (if_then (setting_of c.args.setting.now) (callees_in (g.C.Calls.reach c.args.calls.now) c.args.setting.now) c.args.s.now c.args.run.now.state c.args.run.now.turns c.in-If.then c.get.result.now c.get.ensures
     c.in-If.attributes c.in-If.collective c.in-If.test c.in-If.other c.in-If.is c.in-Ok.c c.word.new.run.state c.word.new.run.turns c.in-Ok.ensures.says c.if-c-ne0.true))
     c.stmt.ensures.says
 
 pub stmt-returns-else-c-ne0-clause-says : goal.stmt-returns-else-c-ne0-clause-says
 stmt-returns-else-c-ne0-clause-says g t c =
     subst (λ o. Says o c.other_branch.result c.other_branch.new.run.state c.other_branch.new.run.turns)
-    (sym (if_else (setting_of c.args.setting.now) (callees_in c.args.setting.now) c.args.s.now c.args.run.now.state c.args.run.now.turns c.in-If.then c.in-If.then refl
+    (sym (if_else (setting_of c.args.setting.now) (callees_in (g.C.Calls.reach c.args.calls.now) c.args.setting.now) c.args.s.now c.args.run.now.state c.args.run.now.turns c.in-If.then c.in-If.then refl
     c.in-If.attributes c.in-If.collective c.in-If.test c.in-If.other c.in-If.is c.in-Ok.c c.word.new.run.state c.word.new.run.turns c.in-Ok.ensures.says c.if-c-ne0.false))
     c.other_branch.ensures.says
 
 pub stmt-returns-in-While-clause-says : goal.stmt-returns-in-While-clause-says
 stmt-returns-in-While-clause-says g t c =
     subst (λ o. Says o c.while_loop.result c.while_loop.new.run.state c.while_loop.new.run.turns)
-    (sym (while_runs (setting_of c.args.setting.now) (callees_in c.args.setting.now) c.args.s.now c.args.run.now.state c.args.run.now.turns c.in-While.body c.get-in-While.result.now c.get-in-While.ensures
-    c.in-While.attributes c.in-While.test c.in-While.is))
+    (sym (while_runs (setting_of c.args.setting.now) (callees_in (g.C.Calls.reach c.args.calls.now) c.args.setting.now) c.args.s.now c.args.run.now.state c.args.run.now.turns c.in-While.attributes c.in-While.test c.in-While.body c.in-While.is))
     c.while_loop.ensures.says
 
-pub stmt-returns-in-Ok-begin-clause-says : goal.stmt-returns-in-Ok-begin-clause-says
-stmt-returns-in-Ok-begin-clause-says g t c =
-    subst (λ o. Says o c.for_loop.result c.for_loop.new.run.state c.for_loop.new.run.turns)
-    (sym (for_runs (setting_of c.args.setting.now) (callees_in c.args.setting.now) c.args.s.now c.args.run.now.state c.args.run.now.turns c.in-For.body c.get-in-For.result.now c.get-in-For.ensures
-    c.in-For.attributes c.in-For.start c.in-For.test c.in-For.steps c.in-Ok-begin.field-0 c.start.new.run.state c.start.new.run.turns c.in-For.is c.in-Ok-begin.ensures.says))
-    c.for_loop.ensures.says
+pub stmt-returns-in-For-clause-says : goal.stmt-returns-in-For-clause-says
+stmt-returns-in-For-clause-says g t c =
+    subst (λ o. Says o c.for_statement.result c.for_statement.new.run.state c.for_statement.new.run.turns)
+    (sym (for_runs (setting_of c.args.setting.now) (callees_in (g.C.Calls.reach c.args.calls.now) c.args.setting.now) c.args.s.now c.args.run.now.state c.args.run.now.turns c.in-For.attributes c.in-For.start c.in-For.test c.in-For.steps c.in-For.body c.in-For.is))
+    c.for_statement.ensures.says

@@ -1,0 +1,161 @@
+ghost use Rattle.std.specs.Prelude.{◌≡◌, ◌*◌, ◌/◌, ◌%◌, IfOk, map, take};
+ghost use Rattle.wg_tree.specs.LaunchMeaning.{place_of, dispatch_of, system_named, system_words, entry_value, first_frame, first_shared};
+
+use std::alloc::{AllocError, Global};
+use wg_tree::{Frame, Named, TypedFunction, TypedParameter, TypedShared};
+use wg_values::{Structs, fresh, parameter_size, zero_value};
+use wg_words::{Word, WordLists, Words, add, mul};
+
+fn quotient(a: u64, b: u64) -> u64
+    ensures { result ≡ a / b }
+{
+    match a.checked_div(b) {
+        Some(q) => q,
+        None => 0,
+    }
+}
+
+fn remainder(a: Word, b: Word) -> Word
+    ensures { result ≡ a % b }
+{
+    match a.checked_rem(b) {
+        Some(r) => r,
+        None => a,
+    }
+}
+
+/// A lane's place in its group of so many threads.
+pub fn place(threads: [Word; 3], lane: u32) -> [Word; 3]
+    ensures { result ≡ place_of threads lane }
+{
+    let [x, y, _] = threads;
+    let row = quotient(u64::from(lane), u64::from(x)) as u32;
+    let layer = quotient(u64::from(lane), u64::from(x) * u64::from(y)) as u32;
+    [remainder(lane, x), remainder(row, y), layer]
+}
+
+/// `SV_DispatchThreadID`.
+fn dispatch(group: [Word; 3], threads: [Word; 3], lane: u32) -> [Word; 3]
+    ensures { result ≡ dispatch_of group threads lane }
+{
+    let at = place(threads, lane);
+    [
+        add(mul(group[0], threads[0]), at[0]),
+        add(mul(group[1], threads[1]), at[1]),
+        add(mul(group[2], threads[2]), at[2]),
+    ]
+}
+
+/// The words of a system value by its name; none of an unknown one.
+fn named_value(
+    alloc: Global,
+    group: [Word; 3],
+    threads: [Word; 3],
+    lane: u32,
+    name: &[u8],
+) -> Result<Words, AllocError>
+    ensures { IfOk result (λ list. list ≡ system_named group threads lane name.now) }
+{
+    if name == b"SV_GroupID".as_slice() {
+        Words::from_slice(alloc, &group)
+    } else if name == b"SV_GroupThreadID".as_slice() {
+        Words::from_slice(alloc, &place(threads, lane))
+    } else if name == b"SV_DispatchThreadID".as_slice() {
+        Words::from_slice(alloc, &dispatch(group, threads, lane))
+    } else if name == b"SV_GroupIndex".as_slice() {
+        Words::from_slice(alloc, &[lane])
+    } else {
+        Ok(Words::new(alloc))
+    }
+}
+
+/// The words of a parameter's system value, if it has one.
+fn system_value(
+    alloc: Global,
+    group: [Word; 3],
+    threads: [Word; 3],
+    lane: u32,
+    semantic: &Option<Named>,
+) -> Result<Words, AllocError>
+    ensures { IfOk result (λ list. list ≡ system_words group threads lane semantic.now) }
+{
+    match semantic {
+        Some(semantic) => named_value(alloc, group, threads, lane, semantic.name.as_slice()),
+        None => Ok(Words::new(alloc)),
+    }
+}
+
+fn first_words(alloc: Global, words: &[Word], count: u64) -> Result<Words, AllocError>
+    ensures { IfOk result (λ list. list ≡ take count words.now) }
+{
+    if count < words.len() as u64 {
+        Words::from_slice(alloc, &words[..count as usize])
+    } else {
+        Words::from_slice(alloc, words)
+    }
+}
+
+/// Where a lane stands: its group, the threads of a group, and its number.
+#[derive(Clone, Copy)]
+pub struct LaneSpot {
+    pub group: [Word; 3],
+    pub threads: [Word; 3],
+    pub lane: u32,
+}
+
+fn parameter_value(
+    alloc: Global,
+    structs: &Structs<'_>,
+    at: LaneSpot,
+    p: &TypedParameter,
+) -> Result<Words, AllocError>
+    ensures { IfOk result (λ list. list ≡ entry_value structs.now at.group at.threads at.lane p.now) }
+{
+    let count = parameter_size(structs, p.of)?;
+    let words = system_value(alloc, at.group, at.threads, at.lane, &p.semantic)?;
+    first_words(alloc, words.as_slice(), count)
+}
+
+fn parameter_values(
+    alloc: Global,
+    structs: &Structs<'_>,
+    at: LaneSpot,
+    parameters: &[TypedParameter],
+) -> Result<WordLists, AllocError>
+    ensures { IfOk result (λ list. list ≡ map (entry_value structs.now at.group at.threads at.lane) parameters.now) }
+{
+    let mut list = WordLists::new(alloc);
+    for p in parameters {
+        list.push(parameter_value(alloc, structs, at, p)?)?;
+    }
+    Ok(list)
+}
+
+/// Groupshared variables as they are before a launch.
+pub fn shared(
+    alloc: Global,
+    structs: &Structs<'_>,
+    variables: &[TypedShared],
+) -> Result<WordLists, AllocError>
+    ensures { IfOk result (λ list. list ≡ first_shared structs.now variables.now) }
+{
+    let mut list = WordLists::new(alloc);
+    for v in variables {
+        list.push(zero_value(alloc, structs, v.of)?)?;
+    }
+    Ok(list)
+}
+
+/// What a lane begins with.
+pub fn frame(
+    alloc: Global,
+    structs: &Structs<'_>,
+    f: &TypedFunction,
+    at: LaneSpot,
+) -> Result<Frame, AllocError>
+    ensures { IfOk result (λ frame. frame ≡ first_frame structs.now f.now at.group at.threads at.lane) }
+{
+    let parameters = parameter_values(alloc, structs, at, f.parameters.as_slice())?;
+    let locals = fresh(alloc, structs, f.locals.as_slice())?;
+    Ok(Frame { parameters, locals })
+}

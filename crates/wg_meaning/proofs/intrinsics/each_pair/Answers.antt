@@ -1,7 +1,0 @@
-use Rattle.std.proofs.Common.{arith}
-use Rattle.wg_meaning.specs.PerWord.{two_words}
-use Rattle.wg_meaning.proofs.Lists.{nothing_more, pairwise_ends}
-use Rattle.wg_meaning.proofs.intrinsics.each_pair.Goals as goal
-
-pub returns : goal.returns
-returns c = nothing_more _ _ _ (pairwise_ends (two_words c.args.call c.args.s) c.args.a.now c.args.b.now c.loop-at.at (omega (arith, c.min-count.ensures, c.loop-at-test.false))) c.loop-at.invariant

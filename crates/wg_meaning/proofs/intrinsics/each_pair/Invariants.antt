@@ -1,7 +1,0 @@
-use Rattle.std.proofs.Common.{◌≡◌, ◌++◌, drop}
-use Rattle.wg_tree.specs.Operators.{pairwise}
-use Rattle.wg_meaning.specs.PerWord.{two_words}
-use Rattle.wg_meaning.proofs.intrinsics.each_pair.Given as goal
-
-abbrev pub invariant-loop-at : goal.invariant-loop-at
-invariant-loop-at l = l.list ++ pairwise (two_words l.call l.s) (drop l.at l.a) (drop l.at l.b) ≡ pairwise (two_words l.call l.s) l.a l.b

@@ -1,6 +1,0 @@
-use Rattle.std.proofs.Common.{◌≡◌, map, take}
-use Rattle.wg_meaning.specs.PerWord.{one_word}
-use Rattle.wg_meaning.proofs.intrinsics.each_word.Given as goal
-
-abbrev pub invariant-loop-x : goal.invariant-loop-x
-invariant-loop-x l = l.list ≡ map (one_word l.call l.s) (take l.x-index l.a)

@@ -1,6 +1,0 @@
-use Rattle.std.proofs.Common.{◌≡◌, replicate}
-use Rattle.wg_tree.specs.Places.{zeros}
-use Rattle.wg_meaning.proofs.requests.zero_records.Given as goal
-
-abbrev pub invariant-loop-i : goal.invariant-loop-i
-invariant-loop-i l = l.list ≡ replicate l._i (zeros l.words)

@@ -1,5 +1,0 @@
-use Rattle.std.proofs.Common.{◌≡◌, ◌++◌, map, take}
-use Rattle.wg_meaning.proofs.sent.send.Given as goal
-
-abbrev pub invariant-loop-item : goal.invariant-loop-item
-invariant-loop-item l = l.sent ≡ l.initial.sent ++ map (λ words. record { unit = l.unit; words = words }) (take l.item-index l.item-items)

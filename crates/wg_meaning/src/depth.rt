@@ -1,0 +1,67 @@
+ghost use Rattle.std.specs.Prelude.{◌≡◌, IfOk};
+ghost use Rattle.wg_tree.specs.FunctionMeaning.{callees_of};
+ghost use Rattle.wg_tree.specs.StmtMeaning.{body_does};
+ghost use Rattle.wg_values.specs.Pieces.{setting_of};
+ghost use Rattle.wg_meaning.specs.Reach.{reach_of};
+ghost use Rattle.wg_meaning.specs.Says.{Says};
+
+use crate::calls::{Calls, Run};
+use crate::functions::numbered;
+use crate::halt::Halt;
+use crate::stmt::block;
+use sqlite_items::Boxed;
+use std::alloc::{AllocError, Global};
+use wg_tree::{Flow, TypedStmt};
+use wg_values::Setting;
+use wg_words::{WordLists, Words};
+
+/// How deep calls may nest.
+#[derive(Drop)]
+pub enum Depth {
+    None,
+    Below(Boxed<Depth>),
+}
+
+impl Calls for Depth {
+    ghost reach = { reach_of };
+
+    fn reaches(&self, function: u32) -> bool {
+        match self {
+            Depth::None => false,
+            Depth::Below(depth) => function == 0 || depth.get().reaches(function - 1),
+        }
+    }
+
+    #[cycle(nest)]
+    fn call(
+        &self,
+        setting: &Setting<'_>,
+        function: u32,
+        values: WordLists,
+        run: &mut Run,
+    ) -> Result<(Words, WordLists), Halt> {
+        match self {
+            Depth::None => Ok((Words::new(setting.alloc), WordLists::new(setting.alloc))),
+            Depth::Below(depth) => numbered(setting, depth.get(), function, values, run),
+        }
+    }
+}
+
+/// As deep as there are functions.
+fn depth_of(alloc: Global, count: usize) -> Result<Depth, AllocError>
+    ensures { IfOk result (λ depth. reach_of depth ≡ count) }
+{
+    let mut depth = Depth::None;
+    for _i in 0..count {
+        depth = Depth::Below(Boxed::new(alloc, depth)?);
+    }
+    Ok(depth)
+}
+
+/// Runs statements of a function that may call those before it.
+pub fn body(setting: &Setting<'_>, body: &[TypedStmt], run: &mut Run) -> Result<Flow, Halt>
+    ensures { Says (body_does (setting_of setting.now) (callees_of (setting_of setting.now) setting.now.earlier.now) body.now run.old.state run.old.turns) result run.new.state run.new.turns }
+{
+    let depth = depth_of(setting.alloc, setting.earlier.len())?;
+    block(setting, &depth, body, run)
+}

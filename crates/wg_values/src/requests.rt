@@ -1,0 +1,178 @@
+ghost use Rattle.std.specs.Prelude.{◌≡◌, ◌≤◌, IfOk, OnOk, replicate, slice_get, slice_index};
+ghost use Rattle.wg_tree.specs.Places.{zeros};
+ghost use Rattle.wg_tree.specs.Requests.{target_of, budget_of, record_words, requested, whole_or_none, with_grant, taken, denied_once, closed, closed_in, is_granted};
+ghost use Rattle.wg_values.specs.Asked.{request_of};
+
+use crate::words::{set_word, word_at, zero_words};
+use std::alloc::{AllocError, Global};
+use std::mem;
+use wg_tree::{Grant, Sender, World};
+use wg_words::{Items, WordLists, Words};
+
+/// Who asks for how many records, and where.
+#[derive(Clone, Copy)]
+pub struct Request {
+    pub handle: Option<u32>,
+    pub lane: u32,
+    pub output: u32,
+    pub element: u32,
+    pub amount: u32,
+}
+
+/// The unit to which an element of an output sends, if any.
+pub fn target(outputs: &[Sender], output: u32, element: u32) -> Option<u32>
+    ensures { result ≡ target_of outputs.now output element }
+{
+    match outputs.get(output as usize) {
+        None => None,
+        Some(o) => match o.targets.get(element as usize) {
+            None => None,
+            Some(target) => *target,
+        },
+    }
+}
+
+fn budget(outputs: &[Sender], output: u32) -> u32
+    ensures { result ≡ budget_of (slice_get outputs.now output) }
+{
+    match outputs.get(output as usize) {
+        None => 0,
+        Some(o) => o.budget,
+    }
+}
+
+fn words_each(outputs: &[Sender], output: u32) -> u32
+    ensures { result ≡ record_words (slice_get outputs.now output) }
+{
+    match outputs.get(output as usize) {
+        None => 0,
+        Some(o) => o.words,
+    }
+}
+
+fn zero_records(alloc: Global, count: u32, words: u32) -> Result<WordLists, AllocError>
+    ensures { IfOk result (λ list. list ≡ replicate count (zeros words)) }
+{
+    let mut list = WordLists::new(alloc);
+    for _i in 0..count {
+        list.push(zero_words(alloc, u64::from(words))?)?;
+    }
+    Ok(list)
+}
+
+fn add_grant(
+    alloc: Global,
+    outputs: &[Sender],
+    request: Request,
+    count: u32,
+    world: &mut World,
+) -> Result<(), AllocError>
+    ensures { OnOk result (world.new ≡ with_grant outputs.now (request_of request) count world.old) }
+{
+    let items = zero_records(alloc, count, words_each(outputs, request.output))?;
+    world.grants.push(Grant {
+        handle: request.handle,
+        lane: request.lane,
+        output: request.output,
+        element: request.element,
+        complete: false,
+        items,
+    })
+}
+
+fn can_grant(outputs: &[Sender], request: Request, world: &World) -> bool
+    ensures { result ≡ is_granted outputs.now (request_of request) world.now }
+{
+    match target(outputs, request.output, request.element) {
+        None => false,
+        Some(_) => request.amount
+            <= word_at(
+                world.left.as_slice(),
+                u64::from(budget(outputs, request.output)),
+            ),
+    }
+}
+
+/// Takes so many from a budget that has them.
+fn take(alloc: Global, budget: u32, count: u32, world: &mut World)
+    requires { count ≤ slice_index world.old.left budget }
+    ensures { world.new ≡ taken budget count world.old }
+{
+    let rest = word_at(world.left.as_slice(), u64::from(budget)) - count;
+    let mut left = mem::replace(&mut world.left, Words::new(alloc)).into_vec();
+    set_word(&mut left, u64::from(budget), rest);
+    world.left = Words::from_vec(left);
+}
+
+fn deny(world: &mut World) -> Result<(), AllocError>
+    ensures { OnOk result (world.new ≡ denied_once world.old) }
+{
+    match world.denied.checked_add(1) {
+        Some(denied) => {
+            world.denied = denied;
+            Ok(())
+        }
+        None => Err(AllocError),
+    }
+}
+
+fn ask_some(
+    alloc: Global,
+    outputs: &[Sender],
+    request: Request,
+    world: &mut World,
+) -> Result<(), AllocError>
+    ensures { OnOk result (world.new ≡ whole_or_none outputs.now (request_of request) world.old) }
+{
+    if can_grant(outputs, request, world) {
+        take(
+            alloc,
+            budget(outputs, request.output),
+            request.amount,
+            world,
+        );
+        add_grant(alloc, outputs, request, request.amount, world)
+    } else {
+        deny(world)?;
+        add_grant(alloc, outputs, request, 0, world)
+    }
+}
+
+/// Grants a request whole, or not at all.
+pub fn ask(
+    alloc: Global,
+    outputs: &[Sender],
+    request: Request,
+    world: &mut World,
+) -> Result<(), AllocError>
+    ensures { OnOk result (world.new ≡ requested outputs.now (request_of request) world.old) }
+{
+    if request.amount == 0 {
+        add_grant(alloc, outputs, request, 0, world)
+    } else {
+        ask_some(alloc, outputs, request, world)
+    }
+}
+
+fn close_in(grants: &mut Vec<Grant>, at: u64)
+    ensures { grants.new.items ≡ closed_in (slice_get grants.old.items at) grants.old.items at }
+{
+    if at < grants.len() as u64 {
+        let place = &mut grants[at as usize];
+        place.complete = true;
+    }
+}
+
+/// Closes a grant.
+pub fn close(alloc: Global, grant: Option<u64>, world: &mut World)
+    ensures { world.new ≡ closed grant world.old }
+{
+    match grant {
+        None => (),
+        Some(at) => {
+            let mut grants = mem::replace(&mut world.grants, Items::new(alloc)).into_vec();
+            close_in(&mut grants, at);
+            world.grants = Items::from_vec(grants);
+        }
+    }
+}

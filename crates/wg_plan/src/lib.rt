@@ -3,7 +3,6 @@
 
 mod answer;
 mod laws;
-mod needs;
 mod planning;
 
 pub use answer::{Plan, PlanFault};

@@ -1,13 +1,14 @@
 ghost use Rattle.std.specs.Prelude.{◌≡◌, ℕ, ◌*◌, ◌^◌, ◌<◌, ◌≤◌, max, length, slice_index, IfOk, IfErr, OnOk};
 ghost use Rattle.wg_machine.specs.Bytes.{plan_bytes, least as least_bytes};
 ghost use Rattle.wg_machine.specs.Need.{most};
+ghost use Rattle.wg_need.specs.Rows.{need_in, IsSoundRow};
 ghost use Rattle.wg_plan.specs.Limits.{IsSmall};
 ghost use Rattle.wg_plan.specs.Plan.{width_for as width_in, Fits, IsCause};
 
 use crate::answer::{Plan, PlanFault};
-use crate::needs::needs_of;
 use std::alloc::{AllocError, Global};
 use wg_machine::Shape;
+use wg_need::{Need, needs_of};
 use wg_words::Words;
 
 /// The greatest number of launches out at a time.
@@ -74,22 +75,23 @@ fn mosts_of(alloc: Global, shape: &Shape) -> Result<Vec<u32>, AllocError>
     ensures mosts { IfOk result (λ mosts. (v : ℕ) → v < length mosts.items → slice_index mosts.items v ≡ most shape.now v) }
     ensures few { IfOk result (λ mosts. (v : ℕ) → slice_index mosts.items v ≤ 16384) }
 {
-    let units = shape.units.as_slice();
-    let mut mosts = vec![in alloc; 0; units.len()]?;
-    for unit in units {
-        let needs = needs_of(alloc, unit, units.len())?;
-        raise(&mut mosts, &needs);
+    let rows = needs_of(alloc, shape)?;
+    let mut mosts = vec![in alloc; 0; rows.len()]?;
+    for row in &rows {
+        raise(&mut mosts, row.as_slice());
     }
     Ok(mosts)
 }
 
-/// Raises each number to another where that is greater.
-fn raise(mosts: &mut [u32], needs: &[u32])
-    requires { length needs.now ≡ length mosts.old }
-    ensures { (v : ℕ) → slice_index mosts.new v ≡ max (slice_index mosts.old v) (slice_index needs.now v) }
+/// Raises each number to the need of its unit where that is greater.
+fn raise(mosts: &mut [u32], needs: &[Need])
+    requires sound { IsSoundRow (length mosts.old) needs.now }
+    requires few { (v : ℕ) → v < length mosts.old → need_in needs.now v < 2 ^ 32 }
+    ensures { (v : ℕ) → slice_index mosts.new v ≡ max (slice_index mosts.old v) (need_in needs.now v) }
 {
-    for (unit, need) in needs.iter().enumerate() {
-        mosts[unit] = mosts[unit].max(*need);
+    for need in needs {
+        let unit = need.unit as usize;
+        mosts[unit] = mosts[unit].max(need.records as u32);
     }
 }
 

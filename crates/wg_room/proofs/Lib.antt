@@ -1,4 +1,1 @@
-mod Bounds
-mod Gathering
 mod Rows
-mod Built

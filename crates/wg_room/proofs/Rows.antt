@@ -3,9 +3,10 @@ use Rattle.std.proofs.Common.{◌≡◌, ℕ, Bool, suc, ◌+◌, ◌<◌, ◌�
 use Rattle.std.proofs.lemmas.Grind.{common_steps}
 use Rattle.std.proofs.lemmas.Bool.Decides.{eqb_tells}
 use Rattle.std.proofs.lemmas.Option.{slice_get_read}
-use Rattle.wg_room.specs.declared.room.Need.{Need}
-use Rattle.wg_room.specs.Counts.{Counts, need_in, need_at, HasRoom, Reserves}
-use Rattle.wg_room.specs.Sound.{IsMet, IsSoundRow, AreSound}
+use Rattle.wg_need.specs.declared.table.Need.{Need}
+use Rattle.wg_need.specs.Rows.{need_in, IsSoundRow}
+use Rattle.wg_room.specs.Counts.{Counts, need_at, HasRoom, Reserves}
+use Rattle.wg_room.specs.Sound.{IsMet, AreSound}
 
 -- the row that is found at a unit
 pub row_found : (rows : List (List Need)) (u : ℕ) (row : List Need) → u < length rows → row ≡ get_or rows u row → unwrap_or (slice_get rows u) [] ≡ row

@@ -1,6 +1,7 @@
 -- The slots used and reserved at each unit, and when a unit has room. This project's own.
-use Rattle.std.specs.Prelude.{◌≡◌, ℕ, ◌+◌, ◌<◌, ◌≤◌, ◌==◌, if◌then◌else◌, List, [], ◌∷◌, length, slice_index, slice_get, unwrap_or}
-use Rattle.wg_room.specs.declared.room.Need.{Need}
+use Rattle.std.specs.Prelude.{◌≡◌, ℕ, ◌+◌, ◌<◌, ◌≤◌, List, length, slice_index}
+use Rattle.wg_need.specs.declared.table.Need.{Need}
+use Rattle.wg_need.specs.Rows as rows
 
 -- by unit: the slots that there are, those used and those reserved, and what a launch of it may send
 pub record Counts : Type 0 where
@@ -9,14 +10,9 @@ pub record Counts : Type 0 where
   pub reserved : List ℕ
   pub needs : List (List Need)
 
--- the records for a unit among needs
-abbrev pub need_in : List Need → ℕ → ℕ
-need_in [] v = 0
-need_in (n ∷ needs) v = (if n.unit == v then n.records else 0) + need_in needs v
-
 -- how many records a launch of u may send to v
 abbrev pub need_at : Counts → ℕ → ℕ → ℕ
-need_at c u v = need_in (unwrap_or (slice_get c.needs u) []) v
+need_at c u v = rows.need_at c.needs u v
 
 -- Each unit to which a launch of u may send has slots left for all that it may send there.
 abbrev pub HasRoom : Counts → ℕ → Type 0

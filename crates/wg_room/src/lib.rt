@@ -1,7 +1,6 @@
 //! The slots that are used and reserved at each unit, and whether a launch has room.
 #![tactic(auto)]
 
-mod needs;
 mod room;
 
-pub use room::{Need, NeedList, Room};
+pub use room::Room;

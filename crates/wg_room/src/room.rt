@@ -1,22 +1,12 @@
 ghost use Rattle.std.specs.Prelude.{◌≡◌, ℕ, ◌+◌, ◌-◌, ◌^◌, ◌<◌, ◌≤◌, ◌↔◌, All, IsTrue, IfOk, length, slice_index, slice_set, replicate};
-ghost use Rattle.wg_machine.specs.Need.{need, need_of};
-ghost use Rattle.wg_room.specs.Counts.{need_in};
-ghost use Rattle.wg_room.specs.Sound.{IsMet, IsSoundRow};
+ghost use Rattle.wg_machine.specs.Need.{need};
+ghost use Rattle.wg_need.specs.Rows.{need_in, IsSoundRow};
+ghost use Rattle.wg_room.specs.Sound.{IsMet};
 
-use crate::needs::needs_of;
 use std::alloc::{AllocError, Global};
 use std::marker::Model;
-use wg_machine::{Shape, Unit};
-use wg_words::Items;
-
-/// How many records a launch may send to a unit.
-#[derive(Clone, Copy, Debug, PartialEq, Eq)]
-pub struct Need {
-    pub unit: u32,
-    pub records: u128,
-}
-
-pub type NeedList = Items<Need>;
+use wg_machine::Shape;
+use wg_need::{Need, NeedList, needs_of};
 
 /// The slots of each unit, those that are used and those that are reserved for launches out.
 #[derive(Debug, Drop)]
@@ -39,7 +29,7 @@ impl Model for Room {
 }
 
 impl Room {
-    ghost use Rattle.wg_room.specs.Counts.{need_in, need_at, HasRoom, Reserves};
+    ghost use Rattle.wg_room.specs.Counts.{need_at, HasRoom, Reserves};
 
     /// No slot of a shape's units is used or reserved. The later calls take no memory.
     pub fn new(alloc: Global, shape: &Shape, bounds: &[u32]) -> Result<Room, AllocError>
@@ -50,16 +40,11 @@ impl Room {
         ensures reserved { IfOk result (λ room. room.reserved ≡ replicate (length bounds.now) 0) }
         ensures needs { IfOk result (λ room. (u v : ℕ) → v < length bounds.now → need_at room u v ≡ need shape.now u v) }
     {
-        let units = shape.units.as_slice();
-        let mut needs = Vec::new(alloc);
-        for unit in units {
-            needs.push(row_of(alloc, unit, units.len())?)?;
-        }
         Ok(Room {
             bounds: Vec::from_slice(alloc, bounds)?,
-            used: vec![in alloc; 0; units.len()]?,
-            reserved: vec![in alloc; 0; units.len()]?,
-            needs,
+            used: vec![in alloc; 0; bounds.len()]?,
+            reserved: vec![in alloc; 0; bounds.len()]?,
+            needs: needs_of(alloc, shape)?,
         })
     }
 
@@ -109,27 +94,6 @@ impl Room {
     }
 }
 
-/// The needs of a unit of so many, without those of no record.
-fn row_of(alloc: Global, unit: &Unit, count: usize) -> Result<NeedList, AllocError>
-    requires { count < 2 ^ 32 }
-    ensures needs { IfOk result (λ row. (v : ℕ) → v < count → need_in row v ≡ need_of unit.now v) }
-    ensures sound { IfOk result (IsSoundRow count) }
-{
-    let budgets = unit.budgets.as_slice();
-    let needs = needs_of(alloc, unit.outputs.as_slice(), budgets, count)?;
-    let mut row = NeedList::new(alloc);
-    for (target, records) in needs.iter().enumerate() {
-        if *records > 0 {
-            let need = Need {
-                unit: target as u32,
-                records: *records,
-            };
-            row.push(need)?;
-        }
-    }
-    Ok(row)
-}
-
 /// Whether each unit has slots left for its need.
 fn all_fit(needs: &[Need], bounds: &[u32], used: &[u32], reserved: &[u32]) -> bool
     requires used { length used.now ≡ length bounds.now }
@@ -174,7 +138,7 @@ fn release_all(reserved: &mut [u32], needs: &[Need])
 mod tests {
     use super::*;
     use std::test::Fail;
-    use wg_machine::{Kind, NodeNames, Output, Outputs, Targets, Units};
+    use wg_machine::{Kind, NodeNames, Output, Outputs, Targets, Unit, Units};
     use wg_words::{Names, Words};
 
     fn unit(alloc: Global, budgets: &[u32], outputs: Outputs) -> Result<Unit, AllocError> {

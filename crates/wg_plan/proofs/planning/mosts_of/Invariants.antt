@@ -2,6 +2,6 @@ use Rattle.std.proofs.Common.{length, take}
 use Rattle.wg_plan.proofs.Mosts.{AreMosts}
 use Rattle.wg_plan.proofs.planning.mosts_of.Given as goal
 
--- the greatest needs of the units so far
-abbrev pub invariant-loop-unit : goal.invariant-loop-unit
-invariant-loop-unit l = AreMosts (take l.unit-index l.units) (length l.units) l.mosts.items
+-- the greatest needs of the units whose rows were looked at
+abbrev pub invariant-loop-row : goal.invariant-loop-row
+invariant-loop-row l = AreMosts (take l.row-index l.shape.units) (length l.shape.units) l.mosts.items

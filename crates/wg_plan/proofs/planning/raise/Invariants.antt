@@ -1,8 +1,8 @@
-use Rattle.std.proofs.Common.{◌≡◌, ℕ, ◌<◌, ◌≤◌, max, slice_index}
+use Rattle.std.proofs.Common.{◌≡◌, ℕ, max, slice_index, drop}
+use Rattle.wg_need.specs.Rows.{need_in}
 use Rattle.wg_plan.proofs.planning.raise.Given as goal
 
--- the numbers below the index are raised, the others stay
-abbrev pub invariant-loop-unit : goal.invariant-loop-unit
-invariant-loop-unit l =
-    ((v : ℕ) → v < l.unit → slice_index l.mosts v ≡ max (slice_index l.initial.mosts v) (slice_index l.needs v))
-    × ((v : ℕ) → l.unit ≤ v → slice_index l.mosts v ≡ slice_index l.initial.mosts v)
+-- the numbers so far, raised to the needs that are left, are those raised to all
+abbrev pub invariant-loop-need : goal.invariant-loop-need
+invariant-loop-need l =
+    (v : ℕ) → max (slice_index l.mosts v) (need_in (drop l.need-index l.needs) v) ≡ max (slice_index l.initial.mosts v) (need_in l.needs v)

@@ -1,5 +1,5 @@
 use Rattle.std.proofs.Common.{ℕ, ◌<◌, get_or}
-use Rattle.wg_room.specs.declared.room.Need.{Need}
+use Rattle.wg_need.specs.declared.table.Need.{Need}
 use Rattle.wg_room.specs.Sound.{IsMet}
 use Rattle.wg_room.proofs.room.all_fit.Given as goal
 

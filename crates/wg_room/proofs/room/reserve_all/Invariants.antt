@@ -1,5 +1,5 @@
 use Rattle.std.proofs.Common.{◌≡◌, ℕ, ◌+◌, slice_index, drop}
-use Rattle.wg_room.specs.Counts.{need_in}
+use Rattle.wg_need.specs.Rows.{need_in}
 use Rattle.wg_room.proofs.room.reserve_all.Given as goal
 
 -- what is reserved, with what is left to add

@@ -1,0 +1,7 @@
+//! How many records a launch of each unit may send to each unit.
+#![tactic(auto)]
+
+mod sums;
+mod table;
+
+pub use table::{Need, NeedList, needs_of};

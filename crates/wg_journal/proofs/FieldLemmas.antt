@@ -5,7 +5,8 @@ use Rattle.std.specs.Option.{option_map}
 use Rattle.std.specs.List.{onto_first}
 use Rattle.std.proofs.lemmas.List.{append-nil, take_more}
 use Rattle.std.proofs.lemmas.Bool.{eqb-true, false_from_ne_true}
-use Rattle.wg_journal.specs.Reading.{cut, fields_of}
+use Rattle.wg_text.specs.Cut.{cut}
+use Rattle.wg_journal.specs.Reading.{fields_of}
 
 -- what was passed before a cut
 abbrev pub with_front : List ℕ → Option (List ℕ × List ℕ) → Option (List ℕ × List ℕ)
@@ -19,10 +20,6 @@ pub front_none : (r : Option (List ℕ × List ℕ)) → with_front [] r ≡ r
 front_none None = refl
 front_none (Some r) = refl
 
-pub front_more : (front : List ℕ) (c : ℕ) (r : Option (List ℕ × List ℕ)) → with_front front (option_map (λ (p : List ℕ × List ℕ). (c ∷ p.0, p.1)) r) ≡ with_front (front ++ c ∷ []) r
-front_more front c None = refl
-front_more front c (Some r) = ap (λ (t : List ℕ). Some (t, r.1)) (sym (append_assoc front (c ∷ []) r.0))
-
 pub fields_some : (text : List ℕ) → fields_of text ≢ []
 fields_some [] e = absurd cc
 fields_some (c ∷ text) e = choice (c == 32) (fields_of text) e
@@ -33,9 +30,9 @@ fields_some (c ∷ text) e = choice (c == 32) (fields_of text) e
     choice false (f ∷ fields) h = absurd cc
 
 -- the first field ends at the first space
-pub fields_cut : (text field rest : List ℕ) → cut 32 text ≡ Some (field, rest) → fields_of text ≡ field ∷ fields_of rest
+pub fields_cut : (text field rest : List ℕ) → cut (λ c. c == 32) text ≡ Some (field, rest) → fields_of text ≡ field ∷ fields_of rest
 fields_cut [] field rest e = absurd cc
-fields_cut (c ∷ text) field rest e = choice (c == 32) (cut 32 text) (λ f r h. fields_cut text f r h) e
+fields_cut (c ∷ text) field rest e = choice (c == 32) (cut (λ c. c == 32) text) (λ f r h. fields_cut text f r h) e
   where
     choice : (b : Bool) (o : Option (List ℕ × List ℕ)) → ((f r : List ℕ) → o ≡ Some (f, r) → fields_of text ≡ f ∷ fields_of r) → cond {A = Option (List ℕ × List ℕ)} b (Some ([], text)) (option_map (λ (p : List ℕ × List ℕ). (c ∷ p.0, p.1)) o) ≡ Some (field, rest) → cond b ([] ∷ fields_of text) (onto_first c (fields_of text)) ≡ field ∷ fields_of rest
     choice true o ih h =
@@ -47,29 +44,14 @@ fields_cut (c ∷ text) field rest e = choice (c == 32) (cut 32 text) (λ f r h.
         ap (onto_first c) (ih r.0 r.1 refl) ∙ ap (λ (r : List ℕ × List ℕ). r.0 ∷ fields_of r.1) same
 
 -- a text without a space is one field
-pub fields_uncut : (text : List ℕ) → cut 32 text ≡ None → fields_of text ≡ text ∷ []
+pub fields_uncut : (text : List ℕ) → cut (λ c. c == 32) text ≡ None → fields_of text ≡ text ∷ []
 fields_uncut [] e = refl
-fields_uncut (c ∷ text) e = choice (c == 32) (cut 32 text) (λ h. fields_uncut text h) e
+fields_uncut (c ∷ text) e = choice (c == 32) (cut (λ c. c == 32) text) (λ h. fields_uncut text h) e
   where
     choice : (b : Bool) (o : Option (List ℕ × List ℕ)) → (o ≡ None → fields_of text ≡ text ∷ []) → cond {A = Option (List ℕ × List ℕ)} b (Some ([], text)) (option_map (λ (p : List ℕ × List ℕ). (c ∷ p.0, p.1)) o) ≡ None → cond b ([] ∷ fields_of text) (onto_first c (fields_of text)) ≡ (c ∷ text) ∷ []
     choice true o ih h = absurd cc
     choice false None ih h = rw (ih refl) refl
     choice false (Some r) ih h = absurd cc
-
--- the cut of what is left, at a byte that cuts
-pub cut_here : (text : List ℕ) (at end : ℕ) → end < length text → get_or text end 0 ≡ at → with_front (take end text) (cut at (drop end text)) ≡ cut at text → Some (take end text, drop (end + 1) text) ≡ cut at text
-cut_here text at end h is e =
-    let test : (get_or text end 0 == at) ≡ true = eq-eqb _ _ is in
-    let here : cut at (drop end text) ≡ Some ([], drop (end + 1) text) = rw (add-one, drop-cons text end 0, test) refl in
-    ap (λ (t : List ℕ). Some (t, drop (end + 1) text)) (sym (append-nil (take end text))) ∙ (ap (with_front (take end text)) (sym here) ∙ e)
-
--- and at one that does not
-pub cut_later : (text : List ℕ) (at end : ℕ) → end < length text → (get_or text end 0 ≡ at → ⊥) → with_front (take end text) (cut at (drop end text)) ≡ cut at text → with_front (take (end + 1) text) (cut at (drop (end + 1) text)) ≡ cut at text
-cut_later text at end h is e =
-    let test : (get_or text end 0 == at) ≡ false = false_from_ne_true _ (λ t. is (eqb-true _ _ t)) in
-    let later : cut at (drop end text) ≡ option_map (λ (p : List ℕ × List ℕ). (get_or text end 0 ∷ p.0, p.1)) (cut at (drop (end + 1) text)) = rw (add-one, drop-cons text end 0, test) refl in
-    ap (λ (t : List ℕ). with_front t (cut at (drop (end + 1) text))) (take_more text end 0 h)
-    ∙ (sym (front_more (take end text) (get_or text end 0) (cut at (drop (end + 1) text))) ∙ (ap (with_front (take end text)) (sym later) ∙ e))
 
 -- the fields that are left of a line, none where it has ended
 abbrev pub left_of : Bool → List ℕ → List (List ℕ)
@@ -79,11 +61,11 @@ pub left_none : (ended : Bool) (text : List ℕ) → (IsTrue ended → left_of e
 left_none true text = (λ h. refl, λ h. refl)
 left_none false text = (λ h. absurd cc, λ h. absurd (fields_some text h))
 
-pub next_last : (ended : Bool) (text : List ℕ) → ended ≡ false → None ≡ cut 32 text → left_of ended text ≡ text ∷ []
+pub next_last : (ended : Bool) (text : List ℕ) → ended ≡ false → None ≡ cut (λ c. c == 32) text → left_of ended text ≡ text ∷ []
 next_last true text h e = absurd cc
 next_last false text h e = fields_uncut text (sym e)
 
-pub next_first : (ended : Bool) (text field rest : List ℕ) → ended ≡ false → Some (field, rest) ≡ cut 32 text → left_of ended text ≡ field ∷ left_of ended rest
+pub next_first : (ended : Bool) (text field rest : List ℕ) → ended ≡ false → Some (field, rest) ≡ cut (λ c. c == 32) text → left_of ended text ≡ field ∷ left_of ended rest
 next_first true text field rest h e = absurd cc
 next_first false text field rest h e = fields_cut text field rest (sym e)
 

@@ -8,7 +8,8 @@ use Rattle.std.proofs.lemmas.Bool.{eqb-true}
 use Rattle.std.proofs.lemmas.Bool.Decides.{nat_tests}
 use Rattle.std.proofs.lemmas.List.{append-nil}
 use Rattle.wg_words.specs.Each.{Each}
-use Rattle.wg_journal.specs.Reading.{cut, fields_of}
+use Rattle.wg_text.specs.Cut.{cut}
+use Rattle.wg_journal.specs.Reading.{fields_of}
 use Rattle.wg_journal.specs.Texts.{all_spaced}
 use Rattle.wg_journal.proofs.FieldLemmas.{fields_some, some_is, with_front, front_none}
 use Rattle.wg_journal.proofs.NumberLemmas.{Visible}
@@ -58,33 +59,33 @@ pub fields_joined : (f : List ℕ) (fields : List (List ℕ)) → Visible f → 
 fields_joined f [] v vs = ap fields_of (append-nil f) ∙ field_last f v
 fields_joined f (g ∷ fields) v vs = field_then f (g ++ spread fields) v ∙ ap (λ (r : List (List ℕ)). f ∷ r) (fields_joined g fields vs.0 vs.1)
 
-cut_then : (f rest : List ℕ) → Visible f → cut 10 (f ++ rest) ≡ with_front f (cut 10 rest)
-cut_then [] rest v = sym (front_none (cut 10 rest))
+cut_then : (f rest : List ℕ) → Visible f → cut (λ c. c == 10) (f ++ rest) ≡ with_front f (cut (λ c. c == 10) rest)
+cut_then [] rest v = sym (front_none (cut (λ c. c == 10) rest))
 cut_then (c ∷ f) rest v =
     let low : 33 ≤ c = v.0 in
     let test : (c == 10) ≡ false = grind (arith, nat_tests) in
-    rw (test, cut_then f rest v.1) (onto (cut 10 rest))
+    rw (test, cut_then f rest v.1) (onto (cut (λ c. c == 10) rest))
   where
     onto : (o : Option (List ℕ × List ℕ)) → option_map (λ (r : List ℕ × List ℕ). (c ∷ r.0, r.1)) (with_front f o) ≡ with_front (c ∷ f) o
     onto None = refl
     onto (Some r) = refl
 
-cut_spread : (fields : List (List ℕ)) (more : List ℕ) → Each Visible fields → cut 10 (spread fields ++ 10 ∷ more) ≡ Some (spread fields, more)
+cut_spread : (fields : List (List ℕ)) (more : List ℕ) → Each Visible fields → cut (λ c. c == 10) (spread fields ++ 10 ∷ more) ≡ Some (spread fields, more)
 cut_spread [] more vs = refl
 cut_spread (f ∷ fields) more vs =
-    let t : cut 10 ((f ++ spread fields) ++ 10 ∷ more) ≡ Some (f ++ spread fields, more) =
-    ap (cut 10) (append_assoc f (spread fields) (10 ∷ more)) ∙ (cut_then f (spread fields ++ 10 ∷ more) vs.0 ∙ ap (with_front f) (cut_spread fields more vs.1)) in
+    let t : cut (λ c. c == 10) ((f ++ spread fields) ++ 10 ∷ more) ≡ Some (f ++ spread fields, more) =
+    ap (cut (λ c. c == 10)) (append_assoc f (spread fields) (10 ∷ more)) ∙ (cut_then f (spread fields ++ 10 ∷ more) vs.0 ∙ ap (with_front f) (cut_spread fields more vs.1)) in
     rw t refl
 
 -- a line of such fields is cut at its line feed
-pub cut_joined : (f : List ℕ) (fields : List (List ℕ)) (more : List ℕ) → Visible f → Each Visible fields → cut 10 (joined (f ∷ fields) ++ 10 ∷ more) ≡ Some (joined (f ∷ fields), more)
+pub cut_joined : (f : List ℕ) (fields : List (List ℕ)) (more : List ℕ) → Visible f → Each Visible fields → cut (λ c. c == 10) (joined (f ∷ fields) ++ 10 ∷ more) ≡ Some (joined (f ∷ fields), more)
 cut_joined f fields more v vs =
-    ap (cut 10) (append_assoc f (spread fields) (10 ∷ more))
+    ap (cut (λ c. c == 10)) (append_assoc f (spread fields) (10 ∷ more))
     ∙ (cut_then f (spread fields ++ 10 ∷ more) v ∙ ap (with_front f) (cut_spread fields more vs))
 
-pub cut_takes : (text line rest : List ℕ) → cut 10 text ≡ Some (line, rest) → text ≡ line ++ 10 ∷ rest
+pub cut_takes : (text line rest : List ℕ) → cut (λ c. c == 10) text ≡ Some (line, rest) → text ≡ line ++ 10 ∷ rest
 cut_takes [] line rest e = absurd cc
-cut_takes (c ∷ text) line rest e = choice (c == 10) refl (cut 10 text) (λ l r h. cut_takes text l r h) e
+cut_takes (c ∷ text) line rest e = choice (c == 10) refl (cut (λ c. c == 10) text) (λ l r h. cut_takes text l r h) e
   where
     choice : (b : Bool) → (c == 10) ≡ b → (o : Option (List ℕ × List ℕ)) → ((l r : List ℕ) → o ≡ Some (l, r) → text ≡ l ++ 10 ∷ r) → cond {A = Option (List ℕ × List ℕ)} b (Some ([], text)) (option_map (λ (p : List ℕ × List ℕ). (c ∷ p.0, p.1)) o) ≡ Some (line, rest) → c ∷ text ≡ line ++ 10 ∷ rest
     choice true t o ih h =

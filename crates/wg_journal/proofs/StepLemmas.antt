@@ -1,5 +1,5 @@
 -- Reading line by line: each step takes one good line, and a report's text is read as the report.
-use Rattle.std.proofs.Common.{◌≡◌, ℕ, suc, ◌+◌, ◌^◌, ◌<◌, List, [], ◌∷◌, ◌++◌, length, length-append, Option, Some, None, refl, sym, ap, subst, ◌∙◌, append_assoc, arith, inl, inr, ⊎_elim}
+use Rattle.std.proofs.Common.{◌≡◌, ◌==◌, ℕ, suc, ◌+◌, ◌^◌, ◌<◌, List, [], ◌∷◌, ◌++◌, length, length-append, Option, Some, None, refl, sym, ap, subst, ◌∙◌, append_assoc, arith, inl, inr, ⊎_elim}
 use Rattle.std.specs.List.{flat_map}
 use Rattle.std.proofs.lemmas.List.{append-nil}
 use Rattle.std.proofs.lemmas.List.Concat.{flat_map-cons}
@@ -15,7 +15,8 @@ use Rattle.wg_journal.specs.declared.journal.Journal.{Journal}
 use Rattle.wg_journal.specs.declared.lines.Line.{Line}
 use Rattle.wg_journal.specs.declared.lines.Line.TheVariants as lines
 use Rattle.wg_journal.specs.Names.{IsNaming}
-use Rattle.wg_journal.specs.Reading.{◌>>=◌, cut, fields_of, line_at, extended, step}
+use Rattle.wg_text.specs.Cut.{cut}
+use Rattle.wg_journal.specs.Reading.{◌>>=◌, fields_of, line_at, extended, step}
 use Rattle.wg_journal.specs.Report.{IsGoodEntry, IsGoodBuffer, IsReport, lines_in}
 use Rattle.wg_journal.specs.Texts.{launch_line, launch_lines, done_line, buffer_line, stop_line, report_text}
 use Rattle.wg_journal.proofs.FieldLemmas.{some_is}
@@ -37,7 +38,7 @@ pub record Stepped (shape : Shape) (j : Journal) (text : List ℕ) (more : Journ
 pub step_sound : (shape : Shape) (names : List ℕ → Option ℕ) → IsNaming shape names → (j : Journal) (text : List ℕ) (more : Journal) (rest : List ℕ) → step names j text ≡ Some (more, rest) → Stepped shape j text more rest
 unfolding step
 step_sound shape names is j text more rest e =
-    let p = bind_some (cut 10 text) _ (more, rest) e in
+    let p = bind_some (cut (λ c. c == 10) text) _ (more, rest) e in
     let l = bind_some (line_at names (length j.entries) (fields_of p.0.0)) _ (more, rest) p.2 in
     let x = bind_some (extended j l.0) _ (more, rest) l.2 in
     let same = some_is (x.0, p.0.1) (more, rest) x.2 in
@@ -69,7 +70,7 @@ step_again shape good names is j l more rest few g e =
     let seen : Each Visible (f.0 ∷ f.1) = subst (λ (fs : List (List ℕ)). Each Visible fs) f.2 (visible_line shape good names is k l few g) in
     let text : line_text shape k l ++ rest ≡ joined (f.0 ∷ f.1) ++ 10 ∷ rest =
     ap (λ (t : List ℕ). t ++ rest) (line_is shape k l ∙ ap (λ (fs : List (List ℕ)). joined fs ++ 10 ∷ []) f.2) ∙ append_assoc (joined (f.0 ∷ f.1)) (10 ∷ []) rest in
-    let parts = ap (cut 10) text ∙ cut_joined f.0 f.1 rest seen.0 seen.1 in
+    let parts = ap (cut (λ c. c == 10)) text ∙ cut_joined f.0 f.1 rest seen.0 seen.1 in
     let read : line_at names k (fields_of (joined (f.0 ∷ f.1))) ≡ Some l = ap (line_at names k) (fields_joined f.0 f.1 seen.0 seen.1 ∙ sym f.2) ∙ line_again shape names is k l few g in
     let a = ap (λ (o : Option (List ℕ × List ℕ)). o >>= λ p. line_at names k (fields_of p.0) >>= λ line. extended j line >>= λ m. Some (m, p.1)) parts in
     let b = ap (λ (o : Option Line). o >>= λ line. extended j line >>= λ m. Some (m, rest)) read in

@@ -1,21 +1,16 @@
 -- The units of a shape by their texts.
 use Rattle.std.specs.Prelude.{◌≡◌, ℕ, ◌<◌, ◌^◌, List, length, Option, Some, slice_get, unwrap_or}
 use Rattle.std.specs.Option.{option_map}
-use Rattle.std.specs.HashMap.{HashMap, get_by}
-use Rattle.std.specs.Global.{Vec}
-use Rattle.std.specs.Str.{bytes_eq}
 use Rattle.wg_machine.specs.declared.shape.Shape.{Shape}
 use Rattle.wg_machine.specs.declared.shape.Unit.{Unit}
 use Rattle.wg_machine.specs.declared.shape.NodeName.{NodeName}
+use Rattle.wg_text.specs.Names.{found_in}
 use Rattle.wg_journal.specs.declared.names.UnitNames.{UnitNames}
 use Rattle.wg_journal.specs.Texts.{unit_at}
 
-abbrev pub named_in : {S : Type 0} → HashMap (Vec ℕ) ℕ S → List ℕ → Option ℕ
-named_in map text = get_by (λ k. bytes_eq text k.items) map
-
 -- the unit that a text names
 abbrev pub unit_in : UnitNames → List ℕ → Option ℕ
-unit_in names text = named_in names.by_text text
+unit_in names text = found_in names.by_text text
 
 -- the index of a unit's node in its node array
 abbrev pub index_at : Shape → ℕ → ℕ

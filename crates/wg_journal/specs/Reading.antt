@@ -7,6 +7,7 @@ use Rattle.std.specs.Str.{bytes_eq}
 use denote.Ref.{Bor}
 use Rattle.wg_machine.specs.declared.launch.Entry.{Entry}
 use Rattle.wg_machine.specs.GoodShape.{is_digit, is_identifier}
+use Rattle.wg_text.specs.Cut.{cut}
 use Rattle.wg_journal.specs.declared.journal.Done.{Done}
 use Rattle.wg_journal.specs.declared.journal.BufferLine.{BufferLine}
 use Rattle.wg_journal.specs.declared.journal.Stop.{Stop}
@@ -51,11 +52,6 @@ Steps (Err refusals.Memory) new read = Unit {0}
 abbrev pub guard : Bool → Option (Unit {0})
 guard true = Some tt
 guard false = None
-
--- what stands before the first such byte, and after it
-abbrev pub cut : ℕ → List ℕ → Option (List ℕ × List ℕ)
-cut at [] = None
-cut at (c ∷ text) = if c == at then Some ([], text) else option_map (λ (r : List ℕ × List ℕ). (c ∷ r.0, r.1)) (cut at text)
 
 -- the fields of a line, apart by single spaces
 abbrev pub fields_of : List ℕ → List (List ℕ)
@@ -214,7 +210,7 @@ extended j (lines.Stop s) = if is_open j.tail then Some (record j { tail = recor
 -- a journal with the line in front of a text, and what follows that line
 unfoldable pub step : (List ℕ → Option ℕ) → Journal → List ℕ → Option (Journal × List ℕ)
 step names j text = do
-  parts ← cut 10 text
+  parts ← cut (λ c. c == 10) text
   line ← line_at names (length j.entries) (fields_of parts.0)
   more ← extended j line
   Some (more, parts.1)

@@ -1,28 +1,13 @@
-ghost use Rattle.std.specs.Prelude.{◌≡◌, ◌↔◌, ◌||◌, [], ◌∷◌, Some, None, MatchOption, IfOk, IfSome, IfNone, IsTrue};
-ghost use Rattle.std.specs.Option.{option_map};
-ghost use Rattle.std.specs.List.{list_all};
-ghost use Rattle.wg_machine.specs.GoodShape.{is_digit as is_digit_byte, is_letter as is_letter_byte, is_identifier as is_name};
+ghost use Rattle.std.specs.Prelude.{◌≡◌, ◌↔◌, [], ◌∷◌, Some, None, MatchOption, IfOk, IfSome, IfNone, IsTrue};
 ghost use Rattle.wg_journal.specs.Names.{unit_in};
-ghost use Rattle.wg_journal.specs.Reading.{Takes, cut as cut_of, fields_of, number_of, number_at, if_word, word_at, keyword_at, named_at, name_at, unit_named_at, end_at, numbers_at, words_at, outs_from, outs_at, Gives};
+ghost use Rattle.wg_journal.specs.Reading.{Takes, fields_of, number_of, number_at, if_word, word_at, keyword_at, named_at, name_at, unit_named_at, end_at, numbers_at, words_at, outs_from, outs_at, Gives};
 
 use crate::names::UnitNames;
 use crate::refusal::Refusal;
 use std::alloc::{AllocError, Global};
 use std::marker::Model;
+use wg_text::{cut, is_identifier};
 use wg_words::{Name, Numbers, Words};
-
-/// What stands before the first such byte, and after it.
-pub fn cut(text: &[u8], at: u8) -> Option<(&[u8], &[u8])>
-    ensures { option_map (λ r. (r.0.now, r.1.now)) result ≡ cut_of at text.now }
-{
-    for (end, byte) in text.iter().enumerate() {
-        if *byte == at {
-            let (_, rest) = text.split_at(end + 1);
-            return Some((&text[..end], rest));
-        }
-    }
-    None
-}
 
 /// The number that a field is: in decimal, below 2^64, with no leading zero.
 pub fn number(field: &[u8]) -> Option<u64>
@@ -46,30 +31,6 @@ fn word(field: &[u8]) -> Option<u32>
     ensures { result ≡ if_word (number_of field.now) }
 {
     u32::try_from(number(field)?).ok()
-}
-
-fn is_letter(byte: u8) -> bool
-    ensures { result ≡ is_letter_byte byte }
-{
-    byte.is_ascii_alphabetic() || byte == b'_'
-}
-
-fn continues_name(bytes: &[u8]) -> bool
-    ensures { result ≡ list_all (λ b. is_letter_byte b || is_digit_byte b) bytes.now }
-{
-    bytes
-        .iter()
-        .all(|byte| is_letter(*byte) || byte.is_ascii_digit())
-}
-
-/// Whether bytes are a name: a letter or `_`, then letters, digits and `_`.
-fn is_identifier(bytes: &[u8]) -> bool
-    ensures { result ≡ is_name bytes.now }
-{
-    let Some((first, rest)) = bytes.split_first() else {
-        return false;
-    };
-    is_letter(*first) && continues_name(rest)
 }
 
 /// The fields of a line that are left, apart by single spaces.

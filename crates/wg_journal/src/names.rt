@@ -4,13 +4,13 @@ ghost use Rattle.wg_journal.specs.Names.{unit_in, IsNaming};
 
 use crate::write::push_unit;
 use std::alloc::{AllocError, Global};
-use std::collections::HashMap;
 use wg_machine::Shape;
+use wg_text::NameMap;
 
 /// The units of a shape by their texts.
 #[derive(Drop)]
 pub struct UnitNames {
-    by_text: HashMap<Vec<u8>, u32>,
+    by_text: NameMap<u32>,
 }
 
 impl UnitNames {
@@ -18,7 +18,7 @@ impl UnitNames {
         requires { IsGoodShape shape.now }
         ensures { IfOk result (λ names. IsNaming shape.now (unit_in names)) }
     {
-        let mut by_text = HashMap::new(alloc);
+        let mut by_text = NameMap::new(alloc);
         for (number, _) in shape.units.as_slice().iter().enumerate() {
             let number = number as u32;
             let mut text = Vec::new(alloc);
@@ -32,6 +32,6 @@ impl UnitNames {
     pub fn find(&self, text: &[u8]) -> Option<u32>
         ensures { result ≡ unit_in self.now text.now }
     {
-        self.by_text.get(text).copied()
+        self.by_text.get(text)
     }
 }

@@ -6,13 +6,14 @@ ghost use Rattle.wg_journal.specs.Reading.{Extends, Steps, is_open as is_open_ta
 ghost use Rattle.wg_journal.specs.Report.{IsReport, IsFirstBadLine, ReadsAs};
 ghost use Rattle.wg_journal.specs.Texts.{report_text};
 
-use crate::fields::{Fields, cut};
+use crate::fields::Fields;
 use crate::lines::{Line, line_of};
 use crate::names::UnitNames;
 use crate::refusal::Refusal;
 use crate::{BufferLines, Journal, JournalFault, Tail};
 use std::alloc::Global;
 use wg_machine::{EntryList, Shape};
+use wg_text::cut;
 
 impl Tail {
     /// Whether launches may still follow.

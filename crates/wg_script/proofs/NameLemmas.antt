@@ -1,42 +1,14 @@
 -- The maps from names, filled from the last.
 use Rattle.std.proofs.Common.{◌≡◌, ℕ, ◌+◌, ◌^◌, ◌<◌, Bool, true, false, cond, List, [], ◌∷◌, length, take, drop, get_or, drop-cons, add-one, Option, Some, None, refl, sym, ap, subst, ◌∙◌, ⊎_elim, arith}
-use Rattle.std.specs.Prelude.{nat_eq, ◌==◌, ◌&&◌, if◌then◌else◌}
+use Rattle.std.specs.Prelude.{◌==◌, ◌&&◌, if◌then◌else◌}
 use Rattle.std.specs.Option.{option_map}
-use Rattle.std.specs.Global.{Vec}
-use Rattle.std.specs.HashMap.{HashMap, UpdatesBy}
 use Rattle.std.specs.Int.{w32, to_be_bytes, from_be_bytes}
-use Rattle.std.specs.Map.{lookup, IsKeyTest, AreApart, KeepsOthers}
-use Rattle.std.specs.Cmp.Lexicographic.{pointwise, nat_list_eq_equiv}
 use Rattle.std.specs.Str.{bytes_eq}
-use Rattle.std.proofs.lemmas.Bool.{cases_Bool, cond-true, cond-false}
 use Rattle.std.proofs.lemmas.Bool.Decides.{nat_tests}
 use Rattle.std.proofs.lemmas.Nat.{from_be_bytes-to_be_bytes_4}
 use Rattle.std.proofs.lemmas.Slice.Eq.{bytes_eq-Decides}
 use Rattle.wg_script.specs.Naming.{first_from}
-use Rattle.wg_script.specs.Names.{found_in, node_key}
-
-other_entries : {K X : Type 0} (eq : K → K → Bool) (test : K → Bool) (old new : List (K × X)) → KeepsOthers eq test old new → (other : K → Bool) → IsKeyTest eq other → AreApart test other → lookup other new ≡ lookup other old
-unfolding KeepsOthers
-other_entries eq test old new h = h
-
--- a look-up by bytes after a change at a key
-pub found_after : {X S : Type 0} (old new : HashMap (Vec ℕ) X S) (k : Vec ℕ) (x : X) → UpdatesBy (λ (a b : Vec ℕ). pointwise nat_eq a.items b.items) (λ (b : Vec ℕ). pointwise nat_eq k.items b.items) old new (Some x)
-    → (text : List ℕ) → found_in new text ≡ (if bytes_eq k.items text then Some x else found_in old text)
-found_after {X} old new k x h text = ⊎_elim here other (cases_Bool (bytes_eq k.items text))
-  where
-    here : bytes_eq k.items text ≡ true → found_in new text ≡ cond (bytes_eq k.items text) (Some x) (found_in old text)
-    here y = subst (λ (l : List ℕ). found_in new l ≡ Some x) ((bytes_eq-Decides k.items text).0 y) h.1 ∙ sym (cond-true (bytes_eq k.items text) (Some x) (found_in old text) y)
-
-    apart : bytes_eq k.items text ≡ false → (y : Vec ℕ) → bytes_eq k.items y.items ≡ true → bytes_eq text y.items ≡ false
-    apart f y t = nat_list_eq_equiv.symm text y.items ∙ (sym (nat_list_eq_equiv.congr k.items y.items text t) ∙ f)
-
-    other : bytes_eq k.items text ≡ false → found_in new text ≡ cond (bytes_eq k.items text) (Some x) (found_in old text)
-    other f =
-        other_entries (λ (a b : Vec ℕ). pointwise nat_eq a.items b.items) (λ (b : Vec ℕ). pointwise nat_eq k.items b.items) old.entries new.entries h.3 (λ (y : Vec ℕ). bytes_eq text y.items) (λ a b. nat_list_eq_equiv.congr text a.items b.items) (apart f)
-        ∙ sym (cond-false (bytes_eq k.items text) (Some x) (found_in old text) f)
-
-pub found_none : {X S : Type 0} (map : HashMap (Vec ℕ) X S) (text : List ℕ) → map.entries ≡ [] → found_in map text ≡ None
-found_none {X} map text e = ap (λ (es : List (Vec ℕ × X)). lookup (λ (k : Vec ℕ). bytes_eq text k.items) es) e
+use Rattle.wg_script.specs.Names.{node_key}
 
 -- ---- the first that passes
 

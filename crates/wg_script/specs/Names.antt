@@ -1,17 +1,11 @@
 -- The names of a shape in maps.
 use Rattle.std.specs.Prelude.{◌≡◌, ℕ, ◌<◌, ◌^◌, ◌++◌, List, Option}
 use Rattle.std.specs.Option.{option_map}
-use Rattle.std.specs.HashMap.{HashMap, get_by}
-use Rattle.std.specs.Global.{Vec}
 use Rattle.std.specs.Int.{w32, to_be_bytes}
-use Rattle.std.specs.Str.{bytes_eq}
 use Rattle.wg_machine.specs.declared.shape.Shape.{Shape}
+use Rattle.wg_text.specs.Names.{found_in}
 use Rattle.wg_script.specs.declared.names.ScriptNames.{ScriptNames}
 use Rattle.wg_script.specs.Naming.{node_at, entry_at, place_of}
-
--- what a map has for a text
-abbrev pub found_in : {X S : Type 0} → HashMap (Vec ℕ) X S → List ℕ → Option X
-found_in map text = get_by (λ k. bytes_eq text k.items) map
 
 -- a node's key: the four bytes of its index, then its name
 abbrev pub node_key : List ℕ → ℕ → List ℕ

@@ -3,7 +3,8 @@ use Rattle.std.specs.Prelude.{ℕ, ◌+◌, ◌*◌, ◌^◌, ◌==◌, nat_lt, 
 use Rattle.std.specs.Char.{digit_value}
 use Rattle.wg_words.specs.Words.{difference}
 use Rattle.wg_machine.specs.GoodShape.{is_identifier}
-use Rattle.wg_script.specs.Words.{◌>>=◌, after, before, cut}
+use Rattle.wg_text.specs.Cut.{cut}
+use Rattle.wg_script.specs.Words.{◌>>=◌, after, before}
 
 -- the number that digits of a base make after those that made n; none where one is no digit of the base
 abbrev pub number_after : ℕ → ℕ → List ℕ → Option ℕ

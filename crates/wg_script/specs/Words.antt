@@ -1,8 +1,8 @@
 -- How a text falls into lines, and a line into words. This project's own.
-use Rattle.std.specs.Prelude.{ℕ, ◌-◌, ◌==◌, ◌||◌, Bool, true, false, if◌then◌else◌, List, [], ◌∷◌, length, take, drop, Option, Some, None, unwrap_or}
-use Rattle.std.specs.Option.{option_map}
+use Rattle.std.specs.Prelude.{ℕ, ◌-◌, ◌==◌, Bool, true, false, if◌then◌else◌, List, [], ◌∷◌, length, take, drop, Option, Some, None, unwrap_or}
 use Rattle.std.specs.List.{slice_split, filter}
 use Rattle.std.specs.Str.{bytes_eq}
+use Rattle.wg_text.specs.Cut.{is_blank}
 
 infixl 10 ◌>>=◌
 abbrev pub ◌>>=◌ : {A B : Type 0} → Option A → (A → Option B) → Option B
@@ -17,17 +17,8 @@ after front text = if bytes_eq (take (length front) text) front then Some (drop 
 abbrev pub before : List ℕ → List ℕ → Option (List ℕ)
 before back text = if bytes_eq (drop (length text - length back) text) back then Some (take (length text - length back) text) else None
 
--- what stands before the first such byte, and after it
-abbrev pub cut : (ℕ → Bool) → List ℕ → Option (List ℕ × List ℕ)
-cut at [] = None
-cut at (c ∷ text) = if at c then Some ([], text) else option_map (λ (r : List ℕ × List ℕ). (c ∷ r.0, r.1)) (cut at text)
-
 abbrev pub is_line_feed : ℕ → Bool
 is_line_feed c = c == 10
-
--- a space or a tab
-abbrev pub is_blank : ℕ → Bool
-is_blank c = (c == 32) || (c == 9)
 
 -- a line without the carriage return at its end
 abbrev pub without_return : List ℕ → List ℕ

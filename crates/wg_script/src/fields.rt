@@ -1,41 +1,10 @@
-ghost use Rattle.std.specs.Prelude.{◌≡◌, ◌==◌, [], ◌∷◌, MatchOption};
-ghost use Rattle.std.specs.Option.{option_map};
+ghost use Rattle.std.specs.Prelude.{◌≡◌, [], ◌∷◌, MatchOption};
 ghost use Rattle.std.specs.List.{slice_split};
-ghost use Rattle.wg_script.specs.Words.{cut as cut_of, is_line_feed, is_blank as is_blank_byte, without_return as unreturned, lines_of, words_of};
+ghost use Rattle.wg_text.specs.Cut.{is_blank};
+ghost use Rattle.wg_script.specs.Words.{without_return as unreturned, lines_of, words_of};
 
 use std::marker::Model;
-
-/// What stands before the first such byte, and after it.
-pub fn cut(text: &[u8], at: u8) -> Option<(&[u8], &[u8])>
-    ensures { option_map (λ r. (r.0.now, r.1.now)) result ≡ cut_of (λ c. c == at) text.now }
-{
-    for (end, byte) in text.iter().enumerate() {
-        if *byte == at {
-            let (_, rest) = text.split_at(end + 1);
-            return Some((&text[..end], rest));
-        }
-    }
-    None
-}
-
-fn is_blank(byte: u8) -> bool
-    ensures { result ≡ is_blank_byte byte }
-{
-    byte == b' ' || byte == b'\t'
-}
-
-/// What stands before the first blank, and after it.
-fn cut_at_blank(text: &[u8]) -> Option<(&[u8], &[u8])>
-    ensures { option_map (λ r. (r.0.now, r.1.now)) result ≡ cut_of is_blank_byte text.now }
-{
-    for (end, byte) in text.iter().enumerate() {
-        if is_blank(*byte) {
-            let (_, rest) = text.split_at(end + 1);
-            return Some((&text[..end], rest));
-        }
-    }
-    None
-}
+use wg_text::{cut, cut_at_blank};
 
 /// A line without the carriage return at its end.
 fn without_return(line: &[u8]) -> &[u8]
@@ -95,7 +64,7 @@ struct Pieces<'a> {
 impl<'a> Model for Pieces<'a> {
     ghost use Rattle.std.specs.Prelude.{List, ℕ, [], if◌then◌else◌};
     ghost use Rattle.std.specs.List.{slice_split};
-    ghost use Rattle.wg_script.specs.Words.{is_blank};
+    ghost use Rattle.wg_text.specs.Cut.{is_blank};
 
     ghost Value = { List (List ℕ) };
 
@@ -104,7 +73,7 @@ impl<'a> Model for Pieces<'a> {
 
 impl<'a> Pieces<'a> {
     fn new(line: &'a [u8]) -> Pieces<'a>
-        ensures { result ≡ slice_split is_blank_byte line.now }
+        ensures { result ≡ slice_split is_blank line.now }
     {
         Pieces {
             rest: line,

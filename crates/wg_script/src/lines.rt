@@ -4,9 +4,10 @@ ghost use Rattle.wg_script.specs.Reading.{Gives};
 ghost use Rattle.wg_script.specs.Words.{words_of};
 
 use crate::fields::LineWords;
-use crate::numbers::{is_identifier, number, target, word};
+use crate::numbers::{number, target, word};
 use crate::refusal::Refusal;
 use std::alloc::Global;
+use wg_text::is_identifier;
 use wg_words::{Name, Words};
 
 /// What a line of a script says. A comment and a line of blanks say nothing.

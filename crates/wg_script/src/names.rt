@@ -1,18 +1,19 @@
 ghost use Rattle.std.specs.Prelude.{◌≡◌, ◌<◌, ◌^◌, ℕ, List, length, IfOk, OnOk};
 ghost use Rattle.std.specs.Option.{option_map};
 ghost use Rattle.wg_script.specs.Naming.{is_entry_of as takes_entries, entry_at, node_at, place_of};
-ghost use Rattle.wg_script.specs.Names.{IsNaming, found_in, node_key as node_key_of, node_in, buffer_in};
+ghost use Rattle.wg_text.specs.Names.{found_in};
+ghost use Rattle.wg_script.specs.Names.{IsNaming, node_key as node_key_of, node_in, buffer_in};
 
 use std::alloc::{AllocError, Global};
-use std::collections::HashMap;
 use wg_machine::{Shape, Unit};
+use wg_text::NameMap;
 use wg_words::Name;
 
 /// The entry units of a shape by the keys of their nodes, and the places of its buffers by their names.
 #[derive(Drop)]
 pub struct ScriptNames {
-    nodes: HashMap<Vec<u8>, Option<u32>>,
-    buffers: HashMap<Vec<u8>, usize>,
+    nodes: NameMap<Option<u32>>,
+    buffers: NameMap<usize>,
 }
 
 /// The key of a node: the four bytes of its index, then its name.
@@ -45,12 +46,12 @@ fn entry_unit(shape: &Shape, node: usize) -> Option<u32>
 }
 
 /// The nodes by their keys. The first of equal ones is put last, and stays.
-fn node_map(alloc: Global, shape: &Shape) -> Result<HashMap<Vec<u8>, Option<u32>>, AllocError>
+fn node_map(alloc: Global, shape: &Shape) -> Result<NameMap<Option<u32>>, AllocError>
     requires { length shape.now.units < 2 ^ 32 }
     ensures { IfOk result (λ map. (name : List ℕ) (index : ℕ) → index < 2 ^ 32 → found_in map (node_key_of name index) ≡ option_map (entry_at shape.now) (node_at shape.now name index)) }
 {
     let nodes = shape.nodes.as_slice();
-    let mut map = HashMap::new(alloc);
+    let mut map = NameMap::new(alloc);
     let mut place = nodes.len();
     while place > 0 {
         place -= 1;
@@ -62,10 +63,10 @@ fn node_map(alloc: Global, shape: &Shape) -> Result<HashMap<Vec<u8>, Option<u32>
 }
 
 /// The buffers by their names.
-fn buffer_map(alloc: Global, names: &[Name]) -> Result<HashMap<Vec<u8>, usize>, AllocError>
+fn buffer_map(alloc: Global, names: &[Name]) -> Result<NameMap<usize>, AllocError>
     ensures { IfOk result (λ map. (name : List ℕ) → found_in map name ≡ place_of names.now name) }
 {
-    let mut map = HashMap::new(alloc);
+    let mut map = NameMap::new(alloc);
     let mut place = names.len();
     while place > 0 {
         place -= 1;
@@ -96,13 +97,13 @@ impl ScriptNames {
         ensures fits { OnOk result (index < 2 ^ 32) }
     {
         let key = node_key(alloc, name, index)?;
-        Ok(self.nodes.get(key.as_slice()).copied())
+        Ok(self.nodes.get(key.as_slice()))
     }
 
     /// The place of a buffer of this name.
     pub fn buffer(&self, name: &[u8]) -> Option<usize>
         ensures { result ≡ buffer_in self.now name.now }
     {
-        self.buffers.get(name).copied()
+        self.buffers.get(name)
     }
 }

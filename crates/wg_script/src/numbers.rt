@@ -1,10 +1,8 @@
-ghost use Rattle.std.specs.Prelude.{◌≡◌, ◌+◌, ◌*◌, ◌≤◌, ◌||◌, Some};
+ghost use Rattle.std.specs.Prelude.{◌≡◌, ◌+◌, ◌*◌, ◌≤◌, Some};
 ghost use Rattle.std.specs.Option.{option_map};
-ghost use Rattle.std.specs.List.{list_all};
-ghost use Rattle.wg_machine.specs.GoodShape.{is_digit, is_letter as is_letter_byte, is_identifier as is_name};
 ghost use Rattle.wg_script.specs.Numbers.{fits_word, number_of, negative_of, hexadecimal_of, word_of, named as named_of, index_of, target_of};
 
-use crate::fields::cut;
+use wg_text::{cut, is_identifier};
 use wg_words::{Word, sub};
 
 /// A value with one more digit, where it is below 2^32.
@@ -63,30 +61,6 @@ pub fn word(text: &[u8]) -> Option<Word>
         return hexadecimal(digits);
     }
     number(text, 10)
-}
-
-fn is_letter(byte: u8) -> bool
-    ensures { result ≡ is_letter_byte byte }
-{
-    byte.is_ascii_alphabetic() || byte == b'_'
-}
-
-fn continues_name(bytes: &[u8]) -> bool
-    ensures { result ≡ list_all (λ b. is_letter_byte b || is_digit b) bytes.now }
-{
-    bytes
-        .iter()
-        .all(|byte| is_letter(*byte) || byte.is_ascii_digit())
-}
-
-/// Whether bytes are a name: a letter or `_`, then letters, digits and `_`.
-pub fn is_identifier(bytes: &[u8]) -> bool
-    ensures { result ≡ is_name bytes.now }
-{
-    let Some((first, rest)) = bytes.split_first() else {
-        return false;
-    };
-    is_letter(*first) && continues_name(rest)
 }
 
 fn named(name: &[u8], index: u32) -> Option<(&[u8], u32)>

@@ -2,8 +2,8 @@ use Rattle.std.proofs.Common.{◌≡◌, ◌∙◌, ◌+◌, ◌-◌, ℕ, List,
 use Rattle.std.specs.Prelude.{if◌then◌else◌, Some}
 use Rattle.std.specs.Str.{bytes_eq}
 use Rattle.wg_script.specs.Naming.{first_from}
-use Rattle.wg_script.specs.Names.{found_in}
-use Rattle.wg_script.proofs.NameLemmas.{found_after, place_more}
+use Rattle.wg_text.specs.Names.{found_in}
+use Rattle.wg_script.proofs.NameLemmas.{place_more}
 use Rattle.wg_script.proofs.names.buffer_map.Goals as goal
 
 pub loop-place-preserved : goal.loop-place-preserved
@@ -19,7 +19,7 @@ loop-place-preserved c =
       found = λ name. (
           let old : found_in c.loop-place.map name ≡ first_from (λ (n : List ℕ). bytes_eq n name) (k - 1 + 1) (drop (k - 1 + 1) names) =
           subst (λ (i : ℕ). found_in c.loop-place.map name ≡ first_from (λ (n : List ℕ). bytes_eq n name) i (drop i names)) up (c.loop-place.invariant.found name) in
-          found_after c.loop-place.map c.insert.new.self c.in_ok-name.name (k - 1) c.in_ok-insert.ensures.updates name
+          c.in_ok-insert.ensures.ok name
           ∙ (ap (λ (n : List ℕ). if bytes_eq n name then Some (k - 1) else found_in c.loop-place.map name) key
           ∙ place_more (λ (n : List ℕ). bytes_eq n name) names (k - 1) c.index-names-place.result (found_in c.loop-place.map name) (omega arith) c.index-names-place.is old));
     }

@@ -1,7 +1,7 @@
 use Rattle.std.proofs.Common.{◌≡◌, ◌≤◌, ℕ, List, length, drop}
 use Rattle.std.specs.Str.{bytes_eq}
 use Rattle.wg_script.specs.Naming.{first_from}
-use Rattle.wg_script.specs.Names.{found_in}
+use Rattle.wg_text.specs.Names.{found_in}
 use Rattle.wg_script.proofs.names.buffer_map.Given as goal
 
 -- the names from a place on are in the map

@@ -4,8 +4,9 @@ use Rattle.std.specs.Option.{option_map}
 use Rattle.std.specs.Str.{bytes_eq}
 use Rattle.wg_machine.specs.declared.shape.NodeName.{NodeName}
 use Rattle.wg_script.specs.Naming.{first_from, has_name, entry_at}
-use Rattle.wg_script.specs.Names.{found_in, node_key}
-use Rattle.wg_script.proofs.NameLemmas.{found_after, first_more, same_key}
+use Rattle.wg_text.specs.Names.{found_in}
+use Rattle.wg_script.specs.Names.{node_key}
+use Rattle.wg_script.proofs.NameLemmas.{first_more, same_key}
 use Rattle.wg_script.proofs.names.node_map.Goals as goal
 
 pub loop-place-preserved : goal.loop-place-preserved
@@ -26,7 +27,7 @@ loop-place-preserved c =
           subst (λ (i : ℕ). found_in map (node_key name index) ≡ option_map (entry_at shape) (first_from (has_name name index) i (drop i shape.nodes))) up (c.loop-place.invariant.found name index fits) in
           let unit : Some c.entry_unit.result ≡ Some (entry_at shape (k - 1)) = ap (λ (u : Option ℕ). Some u) c.entry_unit.ensures in
           let test : bytes_eq c.in_ok-key.key.items (node_key name index) ≡ has_name name index node = ap (λ (t : List ℕ). bytes_eq t (node_key name index)) key ∙ same_key node.name node.index name index c.in_ok-key.ensures.fits fits in
-          found_after map c.insert.new.self c.in_ok-key.key c.entry_unit.result c.in_ok-insert.ensures.updates (node_key name index)
+          c.in_ok-insert.ensures.ok (node_key name index)
           ∙ (ap (λ (t : Bool). if t then Some c.entry_unit.result else found_in map (node_key name index)) test
           ∙ (ap (λ (u : Option (Option ℕ)). if has_name name index node then u else found_in map (node_key name index)) unit
           ∙ first_more (has_name name index) (entry_at shape) shape.nodes (k - 1) node (found_in map (node_key name index)) (omega arith) here old)));

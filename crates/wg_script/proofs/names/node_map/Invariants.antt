@@ -1,7 +1,8 @@
 use Rattle.std.proofs.Common.{◌≡◌, ◌≤◌, ◌<◌, ◌^◌, ℕ, List, length, drop}
 use Rattle.std.specs.Option.{option_map}
 use Rattle.wg_script.specs.Naming.{first_from, has_name, entry_at}
-use Rattle.wg_script.specs.Names.{found_in, node_key}
+use Rattle.wg_text.specs.Names.{found_in}
+use Rattle.wg_script.specs.Names.{node_key}
 use Rattle.wg_script.proofs.names.node_map.Given as goal
 
 -- the nodes from a place on are in the map

@@ -1,7 +1,7 @@
 use Rattle.std.proofs.Common.{◌≡◌, ◌==◌, take, drop}
-use Rattle.wg_script.specs.Words.{cut}
-use Rattle.wg_script.proofs.CutLemmas.{with_front}
-use Rattle.wg_script.proofs.fields.cut.Given as goal
+use Rattle.wg_text.specs.Cut.{cut}
+use Rattle.wg_text.proofs.CutLemmas.{with_front}
+use Rattle.wg_text.proofs.cutting.cut.Given as goal
 
 -- what was passed, and the cut of what is left, are the cut of all
 abbrev pub invariant-loop-end : goal.invariant-loop-end

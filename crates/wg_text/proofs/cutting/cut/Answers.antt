@@ -1,8 +1,8 @@
 use Rattle.std.proofs.Common.{◌∙◌, List, ℕ, Some, ap, take, eq-eqb}
 use Rattle.std.specs.Prelude.{◌==◌}
 use Rattle.std.proofs.lemmas.Bool.{eqb-true, false_from_ne_true}
-use Rattle.wg_script.proofs.CutLemmas.{cut_here, cut_later}
-use Rattle.wg_script.proofs.fields.cut.Goals as goal
+use Rattle.wg_text.proofs.CutLemmas.{cut_here, cut_later}
+use Rattle.wg_text.proofs.cutting.cut.Goals as goal
 
 pub returns-then-byte-at : goal.returns-then-byte-at
 returns-then-byte-at c =

@@ -1,7 +1,7 @@
 use Rattle.std.proofs.Common.{◌∙◌, List, ℕ, Some, ap, sym, take}
-use Rattle.wg_script.specs.Words.{is_blank}
-use Rattle.wg_script.proofs.CutLemmas.{cut_here, cut_later}
-use Rattle.wg_script.proofs.fields.cut_at_blank.Goals as goal
+use Rattle.wg_text.specs.Cut.{is_blank}
+use Rattle.wg_text.proofs.CutLemmas.{cut_here, cut_later}
+use Rattle.wg_text.proofs.cutting.cut_at_blank.Goals as goal
 
 pub returns-then-is_blank : goal.returns-then-is_blank
 returns-then-is_blank c =

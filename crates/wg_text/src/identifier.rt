@@ -1,0 +1,27 @@
+ghost use Rattle.std.specs.Prelude.{◌≡◌, ◌||◌};
+ghost use Rattle.std.specs.List.{list_all};
+ghost use Rattle.wg_machine.specs.GoodShape.{is_digit, is_letter as is_letter_byte, is_identifier as is_name};
+
+fn is_letter(byte: u8) -> bool
+    ensures { result ≡ is_letter_byte byte }
+{
+    byte.is_ascii_alphabetic() || byte == b'_'
+}
+
+fn continues_name(bytes: &[u8]) -> bool
+    ensures { result ≡ list_all (λ b. is_letter_byte b || is_digit b) bytes.now }
+{
+    bytes
+        .iter()
+        .all(|byte| is_letter(*byte) || byte.is_ascii_digit())
+}
+
+/// Whether bytes are a name: a letter or `_`, then letters, digits and `_`.
+pub fn is_identifier(bytes: &[u8]) -> bool
+    ensures { result ≡ is_name bytes.now }
+{
+    let Some((first, rest)) = bytes.split_first() else {
+        return false;
+    };
+    is_letter(*first) && continues_name(rest)
+}

@@ -9,6 +9,8 @@ mod item;
 mod parameter;
 mod parsing;
 #[cfg(test)]
+mod rule_rows;
+#[cfg(test)]
 mod text_tests;
 
 pub use parsing::{MOST_NESTING, ParseFault, ends_of_texts_fit, parse};

@@ -1,10 +1,11 @@
 use crate::graphs::GRAPHS;
+use crate::rule_rows::{ROWS, SETTINGS};
 use crate::{ParseFault, parse};
 use std::alloc::Global;
 use std::test::Fail;
 use wg_lex::lex;
 use wg_tree::{Item, Source, Stmt, TokenKind};
-use wg_words::Place;
+use wg_words::{Name, Place};
 
 /// What is answered, without the tree and the names.
 #[derive(Clone, Copy, Debug, PartialEq, Eq)]
@@ -213,6 +214,36 @@ fn an_else_belongs_to_the_nearest_if(rt: HostRuntime) -> Result<(), Fail> {
     match inner {
         Stmt::If { other, .. } => assert!(rt; other.is_some()),
         _ => return Err("no inner if".into()),
+    }
+    Ok(())
+}
+
+/// A text in its setting.
+fn in_setting(alloc: Global, setting: &str, text: &str) -> Result<Name, Fail> {
+    for (name, before, after) in SETTINGS {
+        if name == setting {
+            let mut whole = Name::from_slice(alloc, before.as_bytes())?;
+            for part in [text, after] {
+                for byte in part.as_bytes() {
+                    whole.push(*byte)?;
+                }
+            }
+            return Ok(whole);
+        }
+    }
+    Err("no setting".into())
+}
+
+#[test]
+fn the_texts_of_the_rules_of_types_and_attributes_are_read(rt: HostRuntime) -> Result<(), Fail> {
+    let alloc = rt.alloc();
+    for row in ROWS.lines().filter(|row| !row.starts_with("//")) {
+        let mut parts = row.split(" # ");
+        let setting = parts.next().ok_or("no setting")?;
+        let _faults = parts.next().ok_or("no faults")?;
+        let text = parts.next().ok_or("no text")?;
+        let text = in_setting(alloc, setting, text)?;
+        assert_eq!(rt; answer_to(alloc, text.as_slice())?, Answer::Read, "{row}");
     }
     Ok(())
 }

@@ -7,7 +7,6 @@ mod expr;
 mod item;
 mod keyword;
 mod law;
-mod scope;
 mod state;
 mod stmt;
 mod token;
@@ -27,7 +26,6 @@ pub use item::{
 };
 pub use keyword::{KEYWORDS, Keyword};
 pub use law::{one_answer, reads_to_the_fault, reads_what_is_spelled, spells_one_tree};
-pub use scope::{Act, Declared, FormalParameter, Meant, Object, Standing, Value};
 pub use state::{
     Flow, Frame, Grant, Group, Lane, Launched, NodeUnit, Passed, Sender, SentRecord, Spot, State,
     Store, World,

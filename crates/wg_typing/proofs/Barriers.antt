@@ -2,21 +2,21 @@
 use Rattle.std.proofs.Common.{◌≡◌, ℕ, Bool, true, false, not, cond, List, [], ◌∷◌, ◌++◌, length, Option, Some, None, refl}
 use Rattle.std.specs.Prelude.{◌||◌, ◌==◌, is_none}
 use Rattle.wg_words.specs.declared.place.Place.{Place}
-use Rattle.wg_tree.specs.Layers.{Part, Piece, word, zero_word, other}
-use Rattle.wg_tree.specs.Maybe.{then, where_true}
-use Rattle.wg_tree.specs.Named.{at_name}
-use Rattle.wg_tree.specs.RulesBarrier.{barrier_in_plain}
-use Rattle.wg_tree.specs.RulesMismatchCall.{unfit_flags}
-use Rattle.wg_tree.specs.RulesShared.{flags_whole, all_pieces_whole, unknown_flags}
-use Rattle.wg_tree.specs.RulesUnknownName.{places_of}
-use Rattle.wg_tree.specs.Scope.{Context, Around, in_entry, in_plain, in_const, look}
-use Rattle.wg_tree.specs.SiteTree.{at_if}
-use Rattle.wg_tree.specs.TypingBarrier.{Flag, memory, scope, an_object, broken_flag, no_flag, flag_of, flag_word, flag, memory_flags, scope_flags, piece_broken, any_broken, orders, syncs_of, barrier_value, outside_plain}
+use Rattle.wg_typing.specs.Layers.{Part, Piece, word, zero_word, other}
+use Rattle.wg_typing.specs.Maybe.{then, where_true}
+use Rattle.wg_typing.specs.Named.{at_name}
+use Rattle.wg_typing.specs.RulesBarrier.{barrier_in_plain}
+use Rattle.wg_typing.specs.RulesMismatchCall.{unfit_flags}
+use Rattle.wg_typing.specs.RulesShared.{flags_whole, all_pieces_whole, unknown_flags}
+use Rattle.wg_typing.specs.RulesUnknownName.{places_of}
+use Rattle.wg_typing.specs.Scope.{Context, Around, in_entry, in_plain, in_const, look}
+use Rattle.wg_typing.specs.SiteTree.{at_if}
+use Rattle.wg_typing.specs.TypingBarrier.{Flag, memory, scope, an_object, broken_flag, no_flag, flag_of, flag_word, flag, memory_flags, scope_flags, piece_broken, any_broken, orders, syncs_of, barrier_value, outside_plain}
 use Rattle.wg_tree.specs.declared.expr.Named.{Named}
-use Rattle.wg_tree.specs.declared.scope.Meant.{Meant}
-use Rattle.wg_tree.specs.declared.scope.Meant.TheVariants as meant
-use Rattle.wg_tree.specs.declared.scope.Object.TheVariants as object
-use Rattle.wg_tree.specs.declared.scope.Value.{Value}
+use Rattle.wg_typing.specs.declared.scope.Meant.{Meant}
+use Rattle.wg_typing.specs.declared.scope.Meant.TheVariants as meant
+use Rattle.wg_typing.specs.declared.scope.Object.TheVariants as object
+use Rattle.wg_typing.specs.declared.scope.Value.{Value}
 use Rattle.wg_typing.proofs.Facts.{Empty, Has, both, empty_if, empty_left, empty_right, has_is_none, has_then, has_through, holds_nowhere, is_false, not_false}
 use Rattle.wg_typing.proofs.Methods.{three_for_two}
 use Rattle.wg_typing.proofs.Names.{AllStand, StandsIf, look_stands}

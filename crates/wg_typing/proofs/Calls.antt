@@ -3,30 +3,30 @@ use Rattle.std.proofs.Common.{◌≡◌, ℕ, true, not, cond, List, [], ◌∷�
 use Rattle.std.specs.Prelude.{◌&&◌, ◌==◌}
 use Rattle.std.proofs.lemmas.Grind.{common_steps}
 use Rattle.wg_words.specs.declared.place.Place.{Place}
-use Rattle.wg_tree.specs.Conversions.{same_type, fits}
-use Rattle.wg_tree.specs.Layers.{Part, typed_part}
-use Rattle.wg_tree.specs.Maybe.{where_true}
-use Rattle.wg_tree.specs.RulesArity.{miscounted_call}
-use Rattle.wg_tree.specs.RulesBarrier.{barrier_called}
-use Rattle.wg_tree.specs.RulesLimit.{chain_beyond}
-use Rattle.wg_tree.specs.RulesMismatchCall.{is_given_back, passes, unfit_passed, same_length, unfit_call}
-use Rattle.wg_tree.specs.RulesNotAssignable.{can_change, fixed_passed, fixed_argument}
-use Rattle.wg_tree.specs.RulesOutOfProfile.{entry_called}
-use Rattle.wg_tree.specs.RulesRecursion.{itself_called}
-use Rattle.wg_tree.specs.RulesShared.{argument_parts, no_value, act_at, each_part, failing}
-use Rattle.wg_tree.specs.TypingActs.{is_output_act, is_syncing}
-use Rattle.wg_tree.specs.RulesUnknownName.{unknown_call}
-use Rattle.wg_tree.specs.Scope.{Context}
-use Rattle.wg_tree.specs.TypingBarrier.{plain_barrier}
-use Rattle.wg_tree.specs.TypingCallee.{Callee, plain, entry, itself, builtin, broken, unknown, on_numbers, interlocked, levels, barrier, barrier_of}
-use Rattle.wg_tree.specs.TypingCalls.{call_value}
-use Rattle.wg_tree.specs.TypingFunctionCall.{passed_place, passed_as, passed_all, chain_fits, call_of, plain_value}
-use Rattle.wg_tree.specs.TypingInterlocked.{is_fixed}
+use Rattle.wg_typing.specs.Conversions.{same_type, fits}
+use Rattle.wg_typing.specs.Layers.{Part, typed_part}
+use Rattle.wg_typing.specs.Maybe.{where_true}
+use Rattle.wg_typing.specs.RulesArity.{miscounted_call}
+use Rattle.wg_typing.specs.RulesBarrier.{barrier_called}
+use Rattle.wg_typing.specs.RulesLimit.{chain_beyond}
+use Rattle.wg_typing.specs.RulesMismatchCall.{is_given_back, passes, unfit_passed, same_length, unfit_call}
+use Rattle.wg_typing.specs.RulesNotAssignable.{can_change, fixed_passed, fixed_argument}
+use Rattle.wg_typing.specs.RulesOutOfProfile.{entry_called}
+use Rattle.wg_typing.specs.RulesRecursion.{itself_called}
+use Rattle.wg_typing.specs.RulesShared.{argument_parts, no_value, act_at, each_part, failing}
+use Rattle.wg_typing.specs.TypingActs.{is_output_act, is_syncing}
+use Rattle.wg_typing.specs.RulesUnknownName.{unknown_call}
+use Rattle.wg_typing.specs.Scope.{Context}
+use Rattle.wg_typing.specs.TypingBarrier.{plain_barrier}
+use Rattle.wg_typing.specs.TypingCallee.{Callee, plain, entry, itself, builtin, broken, unknown, on_numbers, interlocked, levels, barrier, barrier_of}
+use Rattle.wg_typing.specs.TypingCalls.{call_value}
+use Rattle.wg_typing.specs.TypingFunctionCall.{passed_place, passed_as, passed_all, chain_fits, call_of, plain_value}
+use Rattle.wg_typing.specs.TypingInterlocked.{is_fixed}
 use Rattle.wg_tree.specs.declared.item.Direction.{Direction}
 use Rattle.wg_tree.specs.declared.item.Direction.TheVariants as direction
 use Rattle.wg_tree.specs.declared.types.TypeTree.{TypeTree}
 use Rattle.wg_tree.specs.declared.typed_expr.TypedExpr.{TypedExpr}
-use Rattle.wg_tree.specs.declared.scope.FormalParameter.{FormalParameter}
+use Rattle.wg_typing.specs.declared.scope.FormalParameter.{FormalParameter}
 use Rattle.wg_typing.proofs.Barriers.{AllFlags, barrier_stands, has_barrier_of}
 use Rattle.wg_typing.proofs.Facts.{Empty, Has, both, empty_if, empty_left, empty_right, has_then, has_where, is_false, not_false}
 use Rattle.wg_typing.proofs.Interlocks.{has_interlocked}

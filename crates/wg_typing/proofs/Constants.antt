@@ -2,15 +2,15 @@
 use Rattle.std.proofs.Common.{◌≡◌, ℕ, Bool, true, false, cond, List, [], ◌∷◌, map, Option, Some, None, refl, sym, subst}
 use Rattle.std.specs.Prelude.{nat_lt}
 use Rattle.wg_words.specs.declared.place.Place.{Place}
-use Rattle.wg_tree.specs.Maybe.{then}
-use Rattle.wg_tree.specs.Conversions.{numbers, type_of, fits, is_number, number_type, uint_type, truth_type, chosen}
+use Rattle.wg_typing.specs.Maybe.{then}
+use Rattle.wg_typing.specs.Conversions.{numbers, type_of, fits, is_number, number_type, uint_type, truth_type, chosen}
 use Rattle.wg_tree.specs.Constants.{Known, Right, expr_value, form_value, link_value, const_value, applied_value}
 use Rattle.wg_tree.specs.Constants.{chain_value as const_chain}
-use Rattle.wg_tree.specs.Scope.{Context, as_const, look, known_names, constant_if}
-use Rattle.wg_tree.specs.Layers.{FormLayer, LinkLayer, Part, TypedPart, typed_at, typed_part, convert, fit}
-use Rattle.wg_tree.specs.TypingName.{const_name}
-use Rattle.wg_tree.specs.TypingOperators.{prefix_type, chain_value, suited, run_type, chain_type, chain_links, prefix_value, choice_value}
-use Rattle.wg_tree.specs.TypingExpr.{Seen, expr_seen, form_seen, link_seen, part}
+use Rattle.wg_typing.specs.Scope.{Context, as_const, look, known_names, constant_if}
+use Rattle.wg_typing.specs.Layers.{FormLayer, LinkLayer, Part, TypedPart, typed_at, typed_part, convert, fit}
+use Rattle.wg_typing.specs.TypingName.{const_name}
+use Rattle.wg_typing.specs.TypingOperators.{prefix_type, chain_value, suited, run_type, chain_type, chain_links, prefix_value, choice_value}
+use Rattle.wg_typing.specs.TypingExpr.{Seen, expr_seen, form_seen, link_seen, part}
 use Rattle.wg_tree.specs.declared.expr.BinaryOperator.{BinaryOperator}
 use Rattle.wg_tree.specs.declared.expr.PrefixOperator.{PrefixOperator}
 use Rattle.wg_tree.specs.declared.expr.Expr.{Expr, roll-Expr, fold-roll-Expr, ind-Expr, map-Expr}
@@ -21,10 +21,10 @@ use Rattle.wg_tree.specs.declared.expr.Link.{Link, fold-Link}
 use Rattle.wg_tree.specs.declared.types.ConstValue.{ConstValue}
 use Rattle.wg_tree.specs.declared.types.TypeTree.{TypeTree}
 use Rattle.wg_tree.specs.declared.types.TypeTree.TheVariants as type
-use Rattle.wg_tree.specs.declared.scope.Meant.{Meant}
-use Rattle.wg_tree.specs.declared.scope.Meant.TheVariants as meant
-use Rattle.wg_tree.specs.declared.scope.Value.{Value}
-use Rattle.wg_tree.specs.declared.scope.Value.TheVariants as value
+use Rattle.wg_typing.specs.declared.scope.Meant.{Meant}
+use Rattle.wg_typing.specs.declared.scope.Meant.TheVariants as meant
+use Rattle.wg_typing.specs.declared.scope.Value.{Value}
+use Rattle.wg_typing.specs.declared.scope.Value.TheVariants as value
 use Rattle.wg_typing.proofs.Exprs.{mapped}
 use Rattle.wg_typing.proofs.Facts.{Has, some_value}
 use Rattle.wg_typing.proofs.Names.{AllStand, StandsIf, look_stands}

@@ -2,20 +2,20 @@
 use Rattle.std.proofs.Common.{◌≡◌, ℕ, Bool, true, false, not, List, [], ◌∷◌, ◌++◌, Option, Some, None, refl, subst}
 use Rattle.std.specs.Prelude.{◌||◌, is_some}
 use Rattle.wg_words.specs.declared.place.Place.{Place}
-use Rattle.wg_tree.specs.Maybe.{then, if_there}
-use Rattle.wg_tree.specs.RulesMismatch.{unfit_handle}
-use Rattle.wg_tree.specs.RulesOutOfProfile.{is_no_record}
-use Rattle.wg_tree.specs.RulesOutputCall.{starts}
-use Rattle.wg_tree.specs.RulesShared.{act_at}
-use Rattle.wg_tree.specs.TypingActs.{is_syncing}
-use Rattle.wg_tree.specs.Scope.{Context, Gives, nothing, a_value, unsure, collective_here, named_type, own_names}
-use Rattle.wg_tree.specs.SiteTree.{at_if}
-use Rattle.wg_tree.specs.Sites.{AtObject}
-use Rattle.wg_tree.specs.Typing.{UnknownName, Mismatch, BadBarrier, BadOutputCall, OutOfProfile}
-use Rattle.wg_tree.specs.TypingDeclaration.{with_local, declarator_after, declarator_sites, declarator_tree, declarators_after, declarators_sites, declarators_trees, all_declarators, declared_as, declaration_after, declaration_sites, declaration_trees}
-use Rattle.wg_tree.specs.TypingDeclared.{declared_type, wanted_there, fit_in}
-use Rattle.wg_tree.specs.TypingExpr.{part}
-use Rattle.wg_tree.specs.TypingHandle.{handle_word, struct_number, record_named, record_number, handle_record, type_there, request_in, handle_request, handle_tree, with_handle, handle_sites, request_stmt}
+use Rattle.wg_typing.specs.Maybe.{then, if_there}
+use Rattle.wg_typing.specs.RulesMismatch.{unfit_handle}
+use Rattle.wg_typing.specs.RulesOutOfProfile.{is_no_record}
+use Rattle.wg_typing.specs.RulesOutputCall.{starts}
+use Rattle.wg_typing.specs.RulesShared.{act_at}
+use Rattle.wg_typing.specs.TypingActs.{is_syncing}
+use Rattle.wg_typing.specs.Scope.{Context, Gives, nothing, a_value, unsure, collective_here, named_type, own_names}
+use Rattle.wg_typing.specs.SiteTree.{at_if}
+use Rattle.wg_typing.specs.Sites.{AtObject}
+use Rattle.wg_typing.specs.Typing.{UnknownName, Mismatch, BadBarrier, BadOutputCall, OutOfProfile}
+use Rattle.wg_typing.specs.TypingDeclaration.{with_local, declarator_after, declarator_sites, declarator_tree, declarators_after, declarators_sites, declarators_trees, all_declarators, declared_as, declaration_after, declaration_sites, declaration_trees}
+use Rattle.wg_typing.specs.TypingDeclared.{declared_type, wanted_there, fit_in}
+use Rattle.wg_typing.specs.TypingExpr.{part}
+use Rattle.wg_typing.specs.TypingHandle.{handle_word, struct_number, record_named, record_number, handle_record, type_there, request_in, handle_request, handle_tree, with_handle, handle_sites, request_stmt}
 use Rattle.wg_tree.specs.declared.expr.Expr.{Expr}
 use Rattle.wg_tree.specs.declared.expr.Named.{Named}
 use Rattle.wg_tree.specs.declared.expr.TypeName.{TypeName}
@@ -24,9 +24,9 @@ use Rattle.wg_tree.specs.declared.stmt.Declarator.{Declarator}
 use Rattle.wg_tree.specs.declared.stmt.ObjectType.{ObjectType}
 use Rattle.wg_tree.specs.declared.types.TypeTree.{TypeTree}
 use Rattle.wg_tree.specs.declared.typed.TypedHandle.{TypedHandle}
-use Rattle.wg_tree.specs.declared.scope.Act.TheVariants as act
-use Rattle.wg_tree.specs.declared.scope.Value.{Value}
-use Rattle.wg_tree.specs.declared.scope.Value.TheVariants as value
+use Rattle.wg_typing.specs.declared.scope.Act.TheVariants as act
+use Rattle.wg_typing.specs.declared.scope.Value.{Value}
+use Rattle.wg_typing.specs.declared.scope.Value.TheVariants as value
 use Rattle.wg_typing.proofs.Exprs.{has_value}
 use Rattle.wg_typing.proofs.Facts.{Empty, Has, and_left, and_right, has_is_none, has_is_some, has_then, has_where, is_false, not_false}
 use Rattle.wg_typing.proofs.Layers.{Sound}

@@ -1,22 +1,22 @@
 -- Expressions in which no rule is broken have values.
 use Rattle.std.proofs.Common.{◌≡◌, Bool, true, false, cond, List, [], ◌∷◌, ◌++◌, map, Option, Some, None, refl, sym, ap, subst}
 use Rattle.std.specs.Prelude.{◌&&◌, ◌==◌}
-use Rattle.wg_tree.specs.Layers.{Layer, FormLayer, member, method, index, LinkLayer, map_form, map_link, map_layer, zero_word}
-use Rattle.wg_tree.specs.RulesShared.{form_parts, forms_parts, links_parts}
-use Rattle.wg_tree.specs.Scope.{Context}
-use Rattle.wg_tree.specs.SiteTree.{Sites, ◌&◌, all_sites}
-use Rattle.wg_tree.specs.Sites.{Site, AtFlag}
-use Rattle.wg_tree.specs.Typing.{BadBarrier, BadOutputCall}
-use Rattle.wg_tree.specs.TypingCallee.{Callee, plain, entry, itself, builtin, broken, unknown, on_numbers, interlocked, levels, barrier, barrier_of, callee}
-use Rattle.wg_tree.specs.TypingExpr.{Seen, part_of, sites_of_all, flag_sites_of_all, form_sites, link_sites, argument_sites, inner_sites, link_flag_sites, flags_at, layer_value, layer_part, layer_sites, no_flag_sites, expr_seen, form_seen, link_seen, seen, part, sites_of}
-use Rattle.wg_tree.specs.TypingFlags.{is_or, all_or, another, linked_pieces}
+use Rattle.wg_typing.specs.Layers.{Layer, FormLayer, member, method, index, LinkLayer, map_form, map_link, map_layer, zero_word}
+use Rattle.wg_typing.specs.RulesShared.{form_parts, forms_parts, links_parts}
+use Rattle.wg_typing.specs.Scope.{Context}
+use Rattle.wg_typing.specs.SiteTree.{Sites, ◌&◌, all_sites}
+use Rattle.wg_typing.specs.Sites.{Site, AtFlag}
+use Rattle.wg_typing.specs.Typing.{BadBarrier, BadOutputCall}
+use Rattle.wg_typing.specs.TypingCallee.{Callee, plain, entry, itself, builtin, broken, unknown, on_numbers, interlocked, levels, barrier, barrier_of, callee}
+use Rattle.wg_typing.specs.TypingExpr.{Seen, part_of, sites_of_all, flag_sites_of_all, form_sites, link_sites, argument_sites, inner_sites, link_flag_sites, flags_at, layer_value, layer_part, layer_sites, no_flag_sites, expr_seen, form_seen, link_seen, seen, part, sites_of}
+use Rattle.wg_typing.specs.TypingFlags.{is_or, all_or, another, linked_pieces}
 use Rattle.wg_tree.specs.declared.expr.Expr.{Expr, roll-Expr, fold-roll-Expr, ind-Expr, map-Expr}
 use Rattle.wg_tree.specs.declared.expr.Expr.TheOpen.{Expr-F, Form-F}
 use Rattle.wg_tree.specs.declared.expr.Form.{Form, fold-Form, roll-Form, fold-roll-Form, map-Form}
 use Rattle.wg_tree.specs.declared.expr.Link.{Link, fold-Link, roll-Link, fold-roll-Link}
-use Rattle.wg_tree.specs.declared.scope.Act.TheVariants as act
-use Rattle.wg_tree.specs.declared.scope.Value.{Value}
-use Rattle.wg_tree.specs.declared.scope.Value.TheVariants as value
+use Rattle.wg_typing.specs.declared.scope.Act.TheVariants as act
+use Rattle.wg_typing.specs.declared.scope.Value.{Value}
+use Rattle.wg_typing.specs.declared.scope.Value.TheVariants as value
 use Rattle.wg_typing.proofs.Barriers.{AllFlags, WholePieces, whole_pieces}
 use Rattle.wg_typing.proofs.Calls.{Given}
 use Rattle.wg_typing.proofs.Facts.{Has}

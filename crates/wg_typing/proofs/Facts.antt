@@ -2,8 +2,8 @@
 use Rattle.std.proofs.Common.{◌≡◌, Bool, true, false, not, cond, List, [], ◌∷◌, ◌++◌, Option, Some, None, inl, refl, sym, subst}
 use Rattle.std.specs.Prelude.{◌&&◌, ◌||◌, is_some, is_none}
 use Rattle.wg_words.specs.declared.place.Place.{Place}
-use Rattle.wg_tree.specs.Maybe.{then, where_true}
-use Rattle.wg_tree.specs.SiteTree.{In, at_if}
+use Rattle.wg_typing.specs.Maybe.{then, where_true}
+use Rattle.wg_typing.specs.SiteTree.{In, at_if}
 
 -- ---- places
 

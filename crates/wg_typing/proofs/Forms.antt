@@ -2,26 +2,26 @@
 use Rattle.std.proofs.Common.{ℕ, true, false, List, [], ◌∷◌, ◌++◌, Option, Some, None, subst}
 use Rattle.std.specs.Prelude.{slice_get}
 use Rattle.wg_words.specs.declared.place.Place.{Place}
-use Rattle.wg_tree.specs.Conversions.{uint_type}
-use Rattle.wg_tree.specs.Layers.{FormLayer, member, method, index, Part, fit}
-use Rattle.wg_tree.specs.Maybe.{then, where_true}
-use Rattle.wg_tree.specs.RulesArity.{miscounted_form, miscounted_method}
-use Rattle.wg_tree.specs.RulesMismatchExpr.{unfit_index, unfit_method, unfit_form}
-use Rattle.wg_tree.specs.RulesNotAssignable.{fixed_method, fixed_form}
-use Rattle.wg_tree.specs.RulesShared.{form_parts, forms_parts, act_at, before_form}
-use Rattle.wg_tree.specs.TypingActs.{is_output_act, is_syncing}
-use Rattle.wg_tree.specs.RulesUnknownName.{unknown_form}
-use Rattle.wg_tree.specs.Scope.{Context}
-use Rattle.wg_tree.specs.TypingForms.{Reached, Along, at_typed, at_other, begin, finish, struct_field, picked, components_in, member_of, indexed, method_on, form_on, forms_on, over_forms}
-use Rattle.wg_tree.specs.TypingObjects.{Method, method_of, method_value, takes, element_value, has_elements}
+use Rattle.wg_typing.specs.Conversions.{uint_type}
+use Rattle.wg_typing.specs.Layers.{FormLayer, member, method, index, Part, fit}
+use Rattle.wg_typing.specs.Maybe.{then, where_true}
+use Rattle.wg_typing.specs.RulesArity.{miscounted_form, miscounted_method}
+use Rattle.wg_typing.specs.RulesMismatchExpr.{unfit_index, unfit_method, unfit_form}
+use Rattle.wg_typing.specs.RulesNotAssignable.{fixed_method, fixed_form}
+use Rattle.wg_typing.specs.RulesShared.{form_parts, forms_parts, act_at, before_form}
+use Rattle.wg_typing.specs.TypingActs.{is_output_act, is_syncing}
+use Rattle.wg_typing.specs.RulesUnknownName.{unknown_form}
+use Rattle.wg_typing.specs.Scope.{Context}
+use Rattle.wg_typing.specs.TypingForms.{Reached, Along, at_typed, at_other, begin, finish, struct_field, picked, components_in, member_of, indexed, method_on, form_on, forms_on, over_forms}
+use Rattle.wg_typing.specs.TypingObjects.{Method, method_of, method_value, takes, element_value, has_elements}
 use Rattle.wg_tree.specs.declared.types.TypeTree.{TypeTree}
 use Rattle.wg_tree.specs.declared.types.TypeTree.TheVariants as type
 use Rattle.wg_tree.specs.declared.typed.TypedStruct.{TypedStruct}
-use Rattle.wg_tree.specs.declared.scope.Act.{Act}
-use Rattle.wg_tree.specs.declared.scope.Act.TheVariants as act
-use Rattle.wg_tree.specs.declared.scope.Object.{Object}
-use Rattle.wg_tree.specs.declared.scope.Value.{Value}
-use Rattle.wg_tree.specs.declared.scope.Value.TheVariants as value
+use Rattle.wg_typing.specs.declared.scope.Act.{Act}
+use Rattle.wg_typing.specs.declared.scope.Act.TheVariants as act
+use Rattle.wg_typing.specs.declared.scope.Object.{Object}
+use Rattle.wg_typing.specs.declared.scope.Value.{Value}
+use Rattle.wg_typing.specs.declared.scope.Value.TheVariants as value
 use Rattle.wg_typing.proofs.Facts.{Empty, Has, empty_if, empty_left, empty_right, first_only, has_is_none, has_then, has_through, is_false, not_false}
 use Rattle.wg_typing.proofs.Methods.{has_element, has_method}
 use Rattle.wg_typing.proofs.Parts.{AllTyped, IsTyped, has_fit, said}

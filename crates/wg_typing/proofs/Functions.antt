@@ -1,14 +1,14 @@
 -- Functions in which no rule is broken have typed forms.
 use Rattle.std.proofs.Common.{◌≡◌, ℕ, Bool, true, false, cond, List, [], ◌∷◌, map, Option, Some, None, refl, subst}
-use Rattle.wg_tree.specs.Maybe.{all_of}
-use Rattle.wg_tree.specs.Scope.{Context, Around, in_entry, in_plain, in_const, Gives, nothing, a_value, unsure, named_type}
-use Rattle.wg_tree.specs.Typing.{UnknownName}
-use Rattle.wg_tree.specs.TypingEvents.{events, chain_of}
-use Rattle.wg_tree.specs.TypingFunction.{around_of, gives, gives_if, result_sites, head_context, parameter_context, first_before, body_context, body_sites, function_sites, result_if, function_tree, passed_if, passed_of, passed_in, function_if, function_meant}
-use Rattle.wg_tree.specs.TypingHandle.{record_number}
-use Rattle.wg_tree.specs.TypingParameter.{Role, an_input, an_output, no_role, role_of, Before, one_more, takes_role, Holds, empty, records, unsure_records, holds_named, holds, role_object, object_if, value_if, parameter_meant, with_parameter, parameters_after, parameter_type_sites, parameters_sites, object_tree, parameter_type_tree, parameter_tree, parameters_trees}
-use Rattle.wg_tree.specs.TypingSoFar.{Text, outside}
-use Rattle.wg_tree.specs.TypingStmt.{block_after, block_trees, walked}
+use Rattle.wg_typing.specs.Maybe.{all_of}
+use Rattle.wg_typing.specs.Scope.{Context, Around, in_entry, in_plain, in_const, Gives, nothing, a_value, unsure, named_type}
+use Rattle.wg_typing.specs.Typing.{UnknownName}
+use Rattle.wg_typing.specs.TypingEvents.{events, chain_of}
+use Rattle.wg_typing.specs.TypingFunction.{around_of, gives, gives_if, result_sites, head_context, parameter_context, first_before, body_context, body_sites, function_sites, result_if, function_tree, passed_if, passed_of, passed_in, function_if, function_meant}
+use Rattle.wg_typing.specs.TypingHandle.{record_number}
+use Rattle.wg_typing.specs.TypingParameter.{Role, an_input, an_output, no_role, role_of, Before, one_more, takes_role, Holds, empty, records, unsure_records, holds_named, holds, role_object, object_if, value_if, parameter_meant, with_parameter, parameters_after, parameter_type_sites, parameters_sites, object_tree, parameter_type_tree, parameter_tree, parameters_trees}
+use Rattle.wg_typing.specs.TypingSoFar.{Text, outside}
+use Rattle.wg_typing.specs.TypingStmt.{block_after, block_trees, walked}
 use Rattle.wg_tree.specs.declared.expr.Named.{Named}
 use Rattle.wg_tree.specs.declared.expr.TypeName.{TypeName}
 use Rattle.wg_tree.specs.declared.stmt.Attribute.{Attribute}
@@ -23,8 +23,8 @@ use Rattle.wg_tree.specs.declared.item.ResultType.TheVariants as result_type
 use Rattle.wg_tree.specs.declared.types.TypeTree.{TypeTree}
 use Rattle.wg_tree.specs.declared.typed.TypedParameter.{TypedParameter}
 use Rattle.wg_tree.specs.declared.typed.TypedParameterType.{TypedParameterType}
-use Rattle.wg_tree.specs.declared.scope.Meant.{Meant}
-use Rattle.wg_tree.specs.declared.scope.Meant.TheVariants as meant
+use Rattle.wg_typing.specs.declared.scope.Meant.{Meant}
+use Rattle.wg_typing.specs.declared.scope.Meant.TheVariants as meant
 use Rattle.wg_typing.proofs.Declarations.{AllHave, Declares, Fine, IsSure, has_record, may_stand}
 use Rattle.wg_typing.proofs.Facts.{Has, has_then, has_through, some_value, then_some}
 use Rattle.wg_typing.proofs.Names.{AllStand, NoneAllowed, Stands, has_type, stand_push, then_stands, unwrap_stands}

@@ -1,16 +1,16 @@
 -- Interlocked forms on parts that have types.
 use Rattle.std.proofs.Common.{◌≡◌, ℕ, true, not, List, [], ◌∷◌, ◌++◌, Option, Some, None, sym, ap, ◌∙◌, subst}
 use Rattle.wg_words.specs.declared.place.Place.{Place}
-use Rattle.wg_tree.specs.Conversions.{fits, is_word, uint_type}
-use Rattle.wg_tree.specs.Layers.{Part, TypedPart, typed_part, fit}
-use Rattle.wg_tree.specs.Maybe.{then, where_true, if_there}
-use Rattle.wg_tree.specs.RulesArity.{takes_form}
-use Rattle.wg_tree.specs.RulesMismatchCall.{unfit_operands, unfit_words, unfit_interlocked, unfit_raw_operands, unfit_raw_words, unfit_raw}
-use Rattle.wg_tree.specs.RulesNotAssignable.{can_change, is_in_memory, fixed_old, fixed_destination, fixed_interlocked, fixed_raw}
-use Rattle.wg_tree.specs.RulesShared.{failing, maybe_failing, unfit}
-use Rattle.wg_tree.specs.TypingInterlocked.{Operands, maybe_old, with_old, compared, compared_with_old, operands, is_fixed, is_memory, word_place, memory_place, raw_type, interlocked, interlocked_at, interlocked_raw}
-use Rattle.wg_tree.specs.TypingObjects.{raw_takes}
-use Rattle.wg_tree.specs.TypingOperators.{typed_of}
+use Rattle.wg_typing.specs.Conversions.{fits, is_word, uint_type}
+use Rattle.wg_typing.specs.Layers.{Part, TypedPart, typed_part, fit}
+use Rattle.wg_typing.specs.Maybe.{then, where_true, if_there}
+use Rattle.wg_typing.specs.RulesArity.{takes_form}
+use Rattle.wg_typing.specs.RulesMismatchCall.{unfit_operands, unfit_words, unfit_interlocked, unfit_raw_operands, unfit_raw_words, unfit_raw}
+use Rattle.wg_typing.specs.RulesNotAssignable.{can_change, is_in_memory, fixed_old, fixed_destination, fixed_interlocked, fixed_raw}
+use Rattle.wg_typing.specs.RulesShared.{failing, maybe_failing, unfit}
+use Rattle.wg_typing.specs.TypingInterlocked.{Operands, maybe_old, with_old, compared, compared_with_old, operands, is_fixed, is_memory, word_place, memory_place, raw_type, interlocked, interlocked_at, interlocked_raw}
+use Rattle.wg_typing.specs.TypingObjects.{raw_takes}
+use Rattle.wg_typing.specs.TypingOperators.{typed_of}
 use Rattle.wg_tree.specs.declared.types.TypeTree.{TypeTree}
 use Rattle.wg_tree.specs.declared.typed_stmt.InterlockedForm.{InterlockedForm}
 use Rattle.wg_tree.specs.declared.typed_stmt.InterlockedForm.TheVariants as form

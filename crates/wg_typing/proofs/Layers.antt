@@ -1,16 +1,16 @@
 -- One layer of an expression: where its parts have values and no rule is broken at it, it has one.
 use Rattle.std.proofs.Common.{[], ◌∷◌}
 use Rattle.wg_words.specs.declared.place.Place.{Place}
-use Rattle.wg_tree.specs.Conversions.{of_value_type, truth_type}
-use Rattle.wg_tree.specs.Layers.{Layer, Part}
-use Rattle.wg_tree.specs.RulesMismatchExpr.{unfit_in}
-use Rattle.wg_tree.specs.RulesShared.{value_parts, no_value, act_at, each_part, forms_parts, links_parts, unfit}
-use Rattle.wg_tree.specs.TypingActs.{is_output_act, is_syncing}
-use Rattle.wg_tree.specs.Scope.{Context, look}
-use Rattle.wg_tree.specs.Sites.{AtExpr}
-use Rattle.wg_tree.specs.Typing.{UnknownName, Mismatch, NotAssignable, Recursion, LimitPassed, BadBarrier, BadOutputCall, WrongArity, OutOfProfile}
-use Rattle.wg_tree.specs.TypingCallee.{callee}
-use Rattle.wg_tree.specs.TypingExpr.{layer_value, first_token}
+use Rattle.wg_typing.specs.Conversions.{of_value_type, truth_type}
+use Rattle.wg_typing.specs.Layers.{Layer, Part}
+use Rattle.wg_typing.specs.RulesMismatchExpr.{unfit_in}
+use Rattle.wg_typing.specs.RulesShared.{value_parts, no_value, act_at, each_part, forms_parts, links_parts, unfit}
+use Rattle.wg_typing.specs.TypingActs.{is_output_act, is_syncing}
+use Rattle.wg_typing.specs.Scope.{Context, look}
+use Rattle.wg_typing.specs.Sites.{AtExpr}
+use Rattle.wg_typing.specs.Typing.{UnknownName, Mismatch, NotAssignable, Recursion, LimitPassed, BadBarrier, BadOutputCall, WrongArity, OutOfProfile}
+use Rattle.wg_typing.specs.TypingCallee.{callee}
+use Rattle.wg_typing.specs.TypingExpr.{layer_value, first_token}
 use Rattle.wg_tree.specs.declared.expr.Expr.TheOpen.{Expr-F}
 use Rattle.wg_typing.proofs.Calls.{Given, has_call}
 use Rattle.wg_typing.proofs.Facts.{Empty, Has, empty_left, empty_right}

@@ -5,20 +5,20 @@ use Rattle.std.specs.Str.{bytes_eq}
 use Rattle.std.proofs.lemmas.Grind.{common_steps}
 use Prim.Native.String.{String}
 use Rattle.wg_words.specs.declared.place.Place.{Place}
-use Rattle.wg_tree.specs.Conversions.{uint_type, uints}
-use Rattle.wg_tree.specs.Layers.{Part, fit, fit_all}
-use Rattle.wg_tree.specs.Maybe.{then}
-use Rattle.wg_tree.specs.Named.{at_name}
-use Rattle.wg_tree.specs.RulesMismatchExpr.{unfit_arguments}
-use Rattle.wg_tree.specs.RulesNotAssignable.{fixed_method}
-use Rattle.wg_tree.specs.RulesShared.{unfit, unfit_all}
-use Rattle.wg_tree.specs.TypingObjects.{Method, load, store, interlocked, get, count, request, increment, is_valid, complete, methods, method_of, takes, method_value, element_value, has_elements}
+use Rattle.wg_typing.specs.Conversions.{uint_type, uints}
+use Rattle.wg_typing.specs.Layers.{Part, fit, fit_all}
+use Rattle.wg_typing.specs.Maybe.{then}
+use Rattle.wg_typing.specs.Named.{at_name}
+use Rattle.wg_typing.specs.RulesMismatchExpr.{unfit_arguments}
+use Rattle.wg_typing.specs.RulesNotAssignable.{fixed_method}
+use Rattle.wg_typing.specs.RulesShared.{unfit, unfit_all}
+use Rattle.wg_typing.specs.TypingObjects.{Method, load, store, interlocked, get, count, request, increment, is_valid, complete, methods, method_of, takes, method_value, element_value, has_elements}
 use Rattle.wg_tree.specs.declared.types.TypeTree.{TypeTree}
 use Rattle.wg_tree.specs.declared.typed.TypedBufferType.TheVariants as buffer_type
 use Rattle.wg_tree.specs.declared.typed_expr.TypedExpr.{TypedExpr}
-use Rattle.wg_tree.specs.declared.scope.Object.{Object}
-use Rattle.wg_tree.specs.declared.scope.Object.TheVariants as object
-use Rattle.wg_tree.specs.declared.scope.Value.{Value}
+use Rattle.wg_typing.specs.declared.scope.Object.{Object}
+use Rattle.wg_typing.specs.declared.scope.Object.TheVariants as object
+use Rattle.wg_typing.specs.declared.scope.Value.{Value}
 use Rattle.wg_typing.proofs.Facts.{Empty, Has, and_left, and_right, empty_left, empty_right, some_value}
 use Rattle.wg_typing.proofs.Interlocks.{has_raw}
 use Rattle.wg_typing.proofs.Parts.{AllTyped, IsTyped, has_fit, said}

@@ -4,21 +4,21 @@ use Rattle.std.specs.Prelude.{unwrap_or}
 use Rattle.std.specs.Option.{option_or}
 use Rattle.std.specs.Str.{bytes_eq}
 use Rattle.wg_words.specs.declared.place.Place.{Place}
-use Rattle.wg_tree.specs.Conversions.{is_number}
-use Rattle.wg_tree.specs.Maybe.{then, where_true}
-use Rattle.wg_tree.specs.RulesMismatchExpr.{unfit_name}
-use Rattle.wg_tree.specs.RulesUnknownName.{is_no_value, unknown_value, is_no_struct, unknown_type}
-use Rattle.wg_tree.specs.Scope.{Context, Around, in_entry, in_plain, in_const, look, struct_if, named_type}
-use Rattle.wg_tree.specs.SiteTree.{at_if}
-use Rattle.wg_tree.specs.TypingCallee.{Callee, plain, entry, itself, builtin, broken, unknown, Builtin, builtin_if, callee_of, callee}
-use Rattle.wg_tree.specs.TypingName.{name_value, const_name, named_value}
-use Rattle.wg_tree.specs.TypingOperators.{zeros_value}
+use Rattle.wg_typing.specs.Conversions.{is_number}
+use Rattle.wg_typing.specs.Maybe.{then, where_true}
+use Rattle.wg_typing.specs.RulesMismatchExpr.{unfit_name}
+use Rattle.wg_typing.specs.RulesUnknownName.{is_no_value, unknown_value, is_no_struct, unknown_type}
+use Rattle.wg_typing.specs.Scope.{Context, Around, in_entry, in_plain, in_const, look, struct_if, named_type}
+use Rattle.wg_typing.specs.SiteTree.{at_if}
+use Rattle.wg_typing.specs.TypingCallee.{Callee, plain, entry, itself, builtin, broken, unknown, Builtin, builtin_if, callee_of, callee}
+use Rattle.wg_typing.specs.TypingName.{name_value, const_name, named_value}
+use Rattle.wg_typing.specs.TypingOperators.{zeros_value}
 use Rattle.wg_tree.specs.declared.expr.Named.{Named}
 use Rattle.wg_tree.specs.declared.expr.TypeName.{TypeName}
 use Rattle.wg_tree.specs.declared.expr.TypeName.TheVariants as type_name
-use Rattle.wg_tree.specs.declared.scope.Declared.{Declared}
-use Rattle.wg_tree.specs.declared.scope.Meant.{Meant}
-use Rattle.wg_tree.specs.declared.scope.Meant.TheVariants as meant
+use Rattle.wg_typing.specs.declared.scope.Declared.{Declared}
+use Rattle.wg_typing.specs.declared.scope.Meant.{Meant}
+use Rattle.wg_typing.specs.declared.scope.Meant.TheVariants as meant
 use Rattle.wg_typing.proofs.Facts.{Empty, Has}
 
 -- ---- names that stand

@@ -2,13 +2,13 @@
 use Rattle.std.proofs.Common.{◌≡◌, Bool, true, false, not, cond, List, [], ◌∷◌, ◌++◌, Option, Some, refl, sym, ◌∙◌, subst}
 use Rattle.std.specs.Prelude.{◌&&◌, is_none}
 use Rattle.wg_words.specs.declared.place.Place.{Place}
-use Rattle.wg_tree.specs.Conversions.{Numbers, numbers, type_of, size_fits, fits, is_number, truth_type, chosen, class_of, suits, Operation, operation_on}
-use Rattle.wg_tree.specs.Layers.{LinkLayer, Part, TypedPart, typed_part, convert, fit}
-use Rattle.wg_tree.specs.Maybe.{then, where_true}
-use Rattle.wg_tree.specs.RulesMismatchExpr.{clash, clash_on, clash_if, unfit_link, choice_of, unfit_results, unfit_choice}
-use Rattle.wg_tree.specs.RulesShared.{links_parts, failing, unfit}
-use Rattle.wg_tree.specs.SiteTree.{at_if}
-use Rattle.wg_tree.specs.TypingOperators.{prefix_type, prefix_value, cast_value, choice_value, suited, run_on, run_type, chain_links, chain_type, chain_value, over_links, typed_of}
+use Rattle.wg_typing.specs.Conversions.{Numbers, numbers, type_of, size_fits, fits, is_number, truth_type, chosen, class_of, suits, Operation, operation_on}
+use Rattle.wg_typing.specs.Layers.{LinkLayer, Part, TypedPart, typed_part, convert, fit}
+use Rattle.wg_typing.specs.Maybe.{then, where_true}
+use Rattle.wg_typing.specs.RulesMismatchExpr.{clash, clash_on, clash_if, unfit_link, choice_of, unfit_results, unfit_choice}
+use Rattle.wg_typing.specs.RulesShared.{links_parts, failing, unfit}
+use Rattle.wg_typing.specs.SiteTree.{at_if}
+use Rattle.wg_typing.specs.TypingOperators.{prefix_type, prefix_value, cast_value, choice_value, suited, run_on, run_type, chain_links, chain_type, chain_value, over_links, typed_of}
 use Rattle.wg_tree.specs.declared.expr.BinaryOperator.{BinaryOperator}
 use Rattle.wg_tree.specs.declared.expr.PrefixOperator.{PrefixOperator}
 use Rattle.wg_tree.specs.declared.expr.PrefixOperator.TheVariants as prefix

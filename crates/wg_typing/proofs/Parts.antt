@@ -1,14 +1,14 @@
 -- Parts of an expression that have values, and parts that have types.
 use Rattle.std.proofs.Common.{◌≡◌, Bool, true, false, not, List, [], ◌∷◌, ◌++◌, length, Option, Some, None, refl, subst, arith}
 use Rattle.wg_words.specs.declared.place.Place.{Place}
-use Rattle.wg_tree.specs.Conversions.{fits}
-use Rattle.wg_tree.specs.Layers.{Part, TypedPart, typed_at, typed_part, all_typed_parts, convert, fit, fit_all}
-use Rattle.wg_tree.specs.RulesShared.{is_typed, all_are_typed, where_typed, no_value_at, no_value, act_at, each_part, failing, unfit, unfit_all}
-use Rattle.wg_tree.specs.TypingActs.{is_output_act, is_syncing}
+use Rattle.wg_typing.specs.Conversions.{fits}
+use Rattle.wg_typing.specs.Layers.{Part, TypedPart, typed_at, typed_part, all_typed_parts, convert, fit, fit_all}
+use Rattle.wg_typing.specs.RulesShared.{is_typed, all_are_typed, where_typed, no_value_at, no_value, act_at, each_part, failing, unfit, unfit_all}
+use Rattle.wg_typing.specs.TypingActs.{is_output_act, is_syncing}
 use Rattle.wg_tree.specs.declared.types.TypeTree.{TypeTree}
-use Rattle.wg_tree.specs.declared.scope.Act.TheVariants as act
-use Rattle.wg_tree.specs.declared.scope.Value.{Value}
-use Rattle.wg_tree.specs.declared.scope.Value.TheVariants as value
+use Rattle.wg_typing.specs.declared.scope.Act.TheVariants as act
+use Rattle.wg_typing.specs.declared.scope.Value.{Value}
+use Rattle.wg_typing.specs.declared.scope.Value.TheVariants as value
 use Rattle.wg_typing.proofs.Facts.{Empty, Has, both, empty_if, empty_left, empty_right, has_then, has_where, is_false, is_some_has, not_false}
 
 -- ---- parts that have values

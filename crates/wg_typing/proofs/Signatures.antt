@@ -2,15 +2,15 @@
 use Rattle.std.proofs.Common.{◌≡◌, ℕ, suc, Bool, true, false, List, [], ◌∷◌, ◌++◌, length, map, Option, Some, refl, sym, ap, ◌∙◌, subst}
 use Rattle.std.specs.Prelude.{◌&&◌, ◌==◌}
 use Rattle.wg_words.specs.declared.place.Place.{Place}
-use Rattle.wg_tree.specs.Conversions.{Numbers, numbers, type_of, size_fits, fits, is_number, truths, of_value_type, chosen_scalar}
-use Rattle.wg_tree.specs.Layers.{Part, TypedPart, typed_part, all_typed_parts, convert, fixed}
-use Rattle.wg_tree.specs.Maybe.{then, where_true}
-use Rattle.wg_tree.specs.RulesArity.{other_count, miscounted_components}
-use Rattle.wg_tree.specs.RulesMismatchCall.{unfit_together, unfit_intrinsic}
-use Rattle.wg_tree.specs.RulesShared.{failing, each_failing}
-use Rattle.wg_tree.specs.SiteTree.{at_if}
-use Rattle.wg_tree.specs.TypingConstructor.{component_count, components, constructed}
-use Rattle.wg_tree.specs.TypingIntrinsic.{Reckons, in_common, in_uint, to_one_truth, in_truths, choosing, reckons, arity_of, argument_suits, all_suit, size_of_all, Signature, chosen_of_size, signature, signature_on, all_numbers, convert_all, intrinsic_value}
+use Rattle.wg_typing.specs.Conversions.{Numbers, numbers, type_of, size_fits, fits, is_number, truths, of_value_type, chosen_scalar}
+use Rattle.wg_typing.specs.Layers.{Part, TypedPart, typed_part, all_typed_parts, convert, fixed}
+use Rattle.wg_typing.specs.Maybe.{then, where_true}
+use Rattle.wg_typing.specs.RulesArity.{other_count, miscounted_components}
+use Rattle.wg_typing.specs.RulesMismatchCall.{unfit_together, unfit_intrinsic}
+use Rattle.wg_typing.specs.RulesShared.{failing, each_failing}
+use Rattle.wg_typing.specs.SiteTree.{at_if}
+use Rattle.wg_typing.specs.TypingConstructor.{component_count, components, constructed}
+use Rattle.wg_typing.specs.TypingIntrinsic.{Reckons, in_common, in_uint, to_one_truth, in_truths, choosing, reckons, arity_of, argument_suits, all_suit, size_of_all, Signature, chosen_of_size, signature, signature_on, all_numbers, convert_all, intrinsic_value}
 use Rattle.wg_tree.specs.declared.expr.ValueType.{ValueType}
 use Rattle.wg_tree.specs.declared.expr.ValueType.TheVariants as value_type
 use Rattle.wg_tree.specs.declared.typed_expr.Intrinsic.{Intrinsic}

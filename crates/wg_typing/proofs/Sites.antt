@@ -1,9 +1,9 @@
 -- Sites at which no rule is broken.
 use Rattle.std.proofs.Common.{inl, inr, refl}
 use Rattle.wg_words.specs.declared.place.Place.{Place}
-use Rattle.wg_tree.specs.SiteTree.{Sites, only, ◌&◌}
-use Rattle.wg_tree.specs.Sites.{Site}
-use Rattle.wg_tree.specs.Typing.{Rule, places, BrokenAt}
+use Rattle.wg_typing.specs.SiteTree.{Sites, only, ◌&◌}
+use Rattle.wg_typing.specs.Sites.{Site}
+use Rattle.wg_typing.specs.Typing.{Rule, places, BrokenAt}
 use Rattle.wg_typing.proofs.Facts.{Empty, none_in}
 
 -- a site breaks no rule

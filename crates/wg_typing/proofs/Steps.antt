@@ -2,31 +2,31 @@
 use Rattle.std.proofs.Common.{◌≡◌, Bool, true, false, not, cond, List, [], ◌∷◌, ◌++◌, Option, Some, None, refl, sym, ap, ◌∙◌, subst}
 use Rattle.std.specs.Prelude.{◌&&◌}
 use Rattle.wg_words.specs.declared.place.Place.{Place}
-use Rattle.wg_tree.specs.Conversions.{type_of, fits, is_number, Operation}
-use Rattle.wg_tree.specs.Layers.{Part, TypedPart, typed_at, typed_part, convert, fit}
-use Rattle.wg_tree.specs.Maybe.{then, where_true}
-use Rattle.wg_tree.specs.RulesActs.{step_takes_collective}
-use Rattle.wg_tree.specs.RulesMismatch.{unfit_wanted, unfit_back, both_suit, unfit_typed_update, unfit_update, unfit_assigned, unfit_alone}
-use Rattle.wg_tree.specs.RulesMismatchExpr.{clash_on}
-use Rattle.wg_tree.specs.RulesNotAssignable.{fixed_target, fixed_part}
-use Rattle.wg_tree.specs.RulesOutputCall.{stands}
-use Rattle.wg_tree.specs.RulesShared.{no_value, act_at, output_used, sync_used, unfit, failing}
-use Rattle.wg_tree.specs.TypingActs.{is_output_act, is_syncing}
-use Rattle.wg_tree.specs.Scope.{Context, collective_here}
-use Rattle.wg_tree.specs.SiteTree.{at_if}
-use Rattle.wg_tree.specs.Typing.{Mismatch, NotAssignable, BadBarrier, BadOutputCall}
-use Rattle.wg_tree.specs.TypingExpr.{part}
-use Rattle.wg_tree.specs.TypingInterlocked.{is_fixed}
-use Rattle.wg_tree.specs.TypingOperators.{suited}
-use Rattle.wg_tree.specs.TypingStep.{Did, a_step, an_act, evaluated, operator_of, target_of, updated, assigned, changed, step_did, step_sites, own_handle, step_stmt, did_in_header, header_trees, header_sites}
+use Rattle.wg_typing.specs.Conversions.{type_of, fits, is_number, Operation}
+use Rattle.wg_typing.specs.Layers.{Part, TypedPart, typed_at, typed_part, convert, fit}
+use Rattle.wg_typing.specs.Maybe.{then, where_true}
+use Rattle.wg_typing.specs.RulesActs.{step_takes_collective}
+use Rattle.wg_typing.specs.RulesMismatch.{unfit_wanted, unfit_back, both_suit, unfit_typed_update, unfit_update, unfit_assigned, unfit_alone}
+use Rattle.wg_typing.specs.RulesMismatchExpr.{clash_on}
+use Rattle.wg_typing.specs.RulesNotAssignable.{fixed_target, fixed_part}
+use Rattle.wg_typing.specs.RulesOutputCall.{stands}
+use Rattle.wg_typing.specs.RulesShared.{no_value, act_at, output_used, sync_used, unfit, failing}
+use Rattle.wg_typing.specs.TypingActs.{is_output_act, is_syncing}
+use Rattle.wg_typing.specs.Scope.{Context, collective_here}
+use Rattle.wg_typing.specs.SiteTree.{at_if}
+use Rattle.wg_typing.specs.Typing.{Mismatch, NotAssignable, BadBarrier, BadOutputCall}
+use Rattle.wg_typing.specs.TypingExpr.{part}
+use Rattle.wg_typing.specs.TypingInterlocked.{is_fixed}
+use Rattle.wg_typing.specs.TypingOperators.{suited}
+use Rattle.wg_typing.specs.TypingStep.{Did, a_step, an_act, evaluated, operator_of, target_of, updated, assigned, changed, step_did, step_sites, own_handle, step_stmt, did_in_header, header_trees, header_sites}
 use Rattle.wg_tree.specs.declared.expr.BinaryOperator.{BinaryOperator}
 use Rattle.wg_tree.specs.declared.stmt.Step.{Step}
 use Rattle.wg_tree.specs.declared.stmt.Step.TheVariants as step
 use Rattle.wg_tree.specs.declared.stmt.StepOperator.{StepOperator}
 use Rattle.wg_tree.specs.declared.typed_stmt.TypedStep.{TypedStep}
-use Rattle.wg_tree.specs.declared.scope.Act.TheVariants as act
-use Rattle.wg_tree.specs.declared.scope.Value.{Value}
-use Rattle.wg_tree.specs.declared.scope.Value.TheVariants as value
+use Rattle.wg_typing.specs.declared.scope.Act.TheVariants as act
+use Rattle.wg_typing.specs.declared.scope.Value.{Value}
+use Rattle.wg_typing.specs.declared.scope.Value.TheVariants as value
 use Rattle.wg_typing.proofs.Exprs.{has_value}
 use Rattle.wg_typing.proofs.Facts.{Empty, Has, both, empty_if, empty_left, empty_right, first_only, has_then, has_where, is_false, not_false, then_some, where_same}
 use Rattle.wg_typing.proofs.Layers.{Sound}

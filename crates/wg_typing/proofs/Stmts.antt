@@ -1,22 +1,22 @@
 -- Statements in which no rule is broken have typed forms.
 use Rattle.std.proofs.Common.{◌≡◌, true, List, [], ◌∷◌, map, Option, Some, None, sym, subst}
 use Rattle.wg_words.specs.declared.place.Place.{Place}
-use Rattle.wg_tree.specs.Conversions.{truth_type}
-use Rattle.wg_tree.specs.Layers.{Part, typed_part}
-use Rattle.wg_tree.specs.Maybe.{if_there}
-use Rattle.wg_tree.specs.RulesActs.{maybe_used}
-use Rattle.wg_tree.specs.RulesMismatch.{unfit_return, maybe_part}
-use Rattle.wg_tree.specs.RulesShared.{is_typed, no_value, output_used, sync_used}
-use Rattle.wg_tree.specs.Scope.{Context, Gives, nothing, a_value, unsure, enter, enter_loop, leave}
-use Rattle.wg_tree.specs.SiteTree.{only, at_if}
-use Rattle.wg_tree.specs.Sites.{AtJump}
-use Rattle.wg_tree.specs.Typing.{Mismatch, BadBarrier, BadOutputCall, OutOfProfile}
-use Rattle.wg_tree.specs.TypingDeclaration.{declaration_trees}
-use Rattle.wg_tree.specs.TypingDeclared.{fit_in}
-use Rattle.wg_tree.specs.TypingExpr.{part}
-use Rattle.wg_tree.specs.TypingLoop.{start_after, start_sites, start_tree, test_sites, in_header}
-use Rattle.wg_tree.specs.TypingStep.{header_trees, all_steps, maybe_steps}
-use Rattle.wg_tree.specs.TypingStmt.{Walked, Walk, block_after, block_sites, block_trees, branch_after, else_after, else_sites, tree_in, returned_sites, returned_tree, stmt_walked, walked}
+use Rattle.wg_typing.specs.Conversions.{truth_type}
+use Rattle.wg_typing.specs.Layers.{Part, typed_part}
+use Rattle.wg_typing.specs.Maybe.{if_there}
+use Rattle.wg_typing.specs.RulesActs.{maybe_used}
+use Rattle.wg_typing.specs.RulesMismatch.{unfit_return, maybe_part}
+use Rattle.wg_typing.specs.RulesShared.{is_typed, no_value, output_used, sync_used}
+use Rattle.wg_typing.specs.Scope.{Context, Gives, nothing, a_value, unsure, enter, enter_loop, leave}
+use Rattle.wg_typing.specs.SiteTree.{only, at_if}
+use Rattle.wg_typing.specs.Sites.{AtJump}
+use Rattle.wg_typing.specs.Typing.{Mismatch, BadBarrier, BadOutputCall, OutOfProfile}
+use Rattle.wg_typing.specs.TypingDeclaration.{declaration_trees}
+use Rattle.wg_typing.specs.TypingDeclared.{fit_in}
+use Rattle.wg_typing.specs.TypingExpr.{part}
+use Rattle.wg_typing.specs.TypingLoop.{start_after, start_sites, start_tree, test_sites, in_header}
+use Rattle.wg_typing.specs.TypingStep.{header_trees, all_steps, maybe_steps}
+use Rattle.wg_typing.specs.TypingStmt.{Walked, Walk, block_after, block_sites, block_trees, branch_after, else_after, else_sites, tree_in, returned_sites, returned_tree, stmt_walked, walked}
 use Rattle.wg_tree.specs.declared.expr.Expr.{Expr}
 use Rattle.wg_tree.specs.declared.stmt.Start.{Start}
 use Rattle.wg_tree.specs.declared.stmt.Start.TheVariants as start

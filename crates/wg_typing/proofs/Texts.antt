@@ -2,19 +2,19 @@
 use Rattle.std.proofs.Common.{◌≡◌, ℕ, Bool, true, false, List, [], ◌∷◌, length, map, Option, Some, None, refl, sym, subst}
 use Rattle.std.specs.Prelude.{nat_le}
 use Rattle.wg_tree.specs.Constants.{const_value}
-use Rattle.wg_tree.specs.Conversions.{fits, is_number}
-use Rattle.wg_tree.specs.Layers.{Part, TypedPart, typed_part, fit}
-use Rattle.wg_tree.specs.Maybe.{where_true, all_of}
-use Rattle.wg_tree.specs.Scope.{Context, as_const, known_names, named_type}
-use Rattle.wg_tree.specs.Typing.{LimitPassed, IsWellTyped, typed}
-use Rattle.wg_tree.specs.TypingBuffer.{buffer_of, buffer_meant, element_sites}
-use Rattle.wg_tree.specs.TypingConstant.{constant_of, constant_type, constant_meant, constant_sites}
-use Rattle.wg_tree.specs.TypingDeclared.{type_limit, declared_type, wanted_sites}
-use Rattle.wg_tree.specs.TypingExpr.{part}
-use Rattle.wg_tree.specs.TypingShared.{shared_type, shared_meant}
-use Rattle.wg_tree.specs.TypingSoFar.{Text, outside}
-use Rattle.wg_tree.specs.TypingStruct.{field_tree, fields_sites, struct_of_fields, struct_size, struct_tree, struct_limit, with_struct}
-use Rattle.wg_tree.specs.TypingText.{item_sites, item_after, no_text, items_sites, items_after, text_tree}
+use Rattle.wg_typing.specs.Conversions.{fits, is_number}
+use Rattle.wg_typing.specs.Layers.{Part, TypedPart, typed_part, fit}
+use Rattle.wg_typing.specs.Maybe.{where_true, all_of}
+use Rattle.wg_typing.specs.Scope.{Context, as_const, known_names, named_type}
+use Rattle.wg_typing.specs.Typing.{LimitPassed, IsWellTyped, typed}
+use Rattle.wg_typing.specs.TypingBuffer.{buffer_of, buffer_meant, element_sites}
+use Rattle.wg_typing.specs.TypingConstant.{constant_of, constant_type, constant_meant, constant_sites}
+use Rattle.wg_typing.specs.TypingDeclared.{type_limit, declared_type, wanted_sites}
+use Rattle.wg_typing.specs.TypingExpr.{part}
+use Rattle.wg_typing.specs.TypingShared.{shared_type, shared_meant}
+use Rattle.wg_typing.specs.TypingSoFar.{Text, outside}
+use Rattle.wg_typing.specs.TypingStruct.{field_tree, fields_sites, struct_of_fields, struct_size, struct_tree, struct_limit, with_struct}
+use Rattle.wg_typing.specs.TypingText.{item_sites, item_after, no_text, items_sites, items_after, text_tree}
 use Rattle.wg_tree.specs.declared.expr.Expr.{Expr}
 use Rattle.wg_tree.specs.declared.expr.Named.{Named}
 use Rattle.wg_tree.specs.declared.expr.TypeName.{TypeName}

@@ -2,8 +2,8 @@
 use Rattle.std.proofs.Common.{◌≡◌, ℕ, Bool, true, false, Option, Some, None, refl, sym, ap, ◌∙◌, subst, arith}
 use Rattle.std.specs.Prelude.{◌==◌}
 use Rattle.std.proofs.lemmas.Grind.{common_steps}
-use Rattle.wg_tree.specs.Conversions.{Numbers, numbers, sized, type_of, same_type, size_fits, numbers_fit, fits, is_number, is_scalar, common_size, common, chosen, Class, arithmetic, shift, comparison, logic, suits, class_of, Operation, operation, operation_on, truths}
-use Rattle.wg_tree.specs.Maybe.{where_true}
+use Rattle.wg_typing.specs.Conversions.{Numbers, numbers, sized, type_of, same_type, size_fits, numbers_fit, fits, is_number, is_scalar, common_size, common, chosen, Class, arithmetic, shift, comparison, logic, suits, class_of, Operation, operation, operation_on, truths}
+use Rattle.wg_typing.specs.Maybe.{where_true}
 use Rattle.wg_tree.specs.declared.expr.Scalar.{Scalar}
 use Rattle.wg_tree.specs.declared.expr.BinaryOperator.{BinaryOperator}
 use Rattle.wg_tree.specs.declared.types.TypeTree.{TypeTree}

@@ -2,19 +2,19 @@
 use Rattle.std.proofs.Common.{◌≡◌, ℕ, true, false, List, [], Option, Some, None, subst, arith}
 use Rattle.std.specs.Prelude.{nat_lt, nat_le}
 use Rattle.std.proofs.lemmas.Grind.{common_steps}
-use Rattle.wg_tree.specs.AttributeArguments.{is_positive}
+use Rattle.wg_typing.specs.AttributeArguments.{is_positive}
 use Rattle.wg_tree.specs.Constants.{const_value}
-use Rattle.wg_tree.specs.Conversions.{uint_type, element_of, of_value_type}
-use Rattle.wg_tree.specs.Layers.{Part, typed_part}
+use Rattle.wg_typing.specs.Conversions.{uint_type, element_of, of_value_type}
+use Rattle.wg_typing.specs.Layers.{Part, typed_part}
 use Rattle.wg_tree.specs.Layout.{words_of}
-use Rattle.wg_tree.specs.RulesLimit.{size_below}
-use Rattle.wg_tree.specs.RulesMismatch.{unfit_wanted, unfit_const}
-use Rattle.wg_tree.specs.RulesShared.{is_typed, no_value}
-use Rattle.wg_tree.specs.Scope.{Context, as_const, known_names, look, struct_if, named_type}
-use Rattle.wg_tree.specs.Sites.{AtType}
-use Rattle.wg_tree.specs.Typing.{UnknownName, Mismatch, LimitPassed, BadBarrier, BadOutputCall}
-use Rattle.wg_tree.specs.TypingDeclared.{type_limit, size_value, array_of, type_of_size, declared_type, limit_site, wanted_sites, fit_in, const_sites, size_sites, declared_sites}
-use Rattle.wg_tree.specs.TypingExpr.{part}
+use Rattle.wg_typing.specs.RulesLimit.{size_below}
+use Rattle.wg_typing.specs.RulesMismatch.{unfit_wanted, unfit_const}
+use Rattle.wg_typing.specs.RulesShared.{is_typed, no_value}
+use Rattle.wg_typing.specs.Scope.{Context, as_const, known_names, look, struct_if, named_type}
+use Rattle.wg_typing.specs.Sites.{AtType}
+use Rattle.wg_typing.specs.Typing.{UnknownName, Mismatch, LimitPassed, BadBarrier, BadOutputCall}
+use Rattle.wg_typing.specs.TypingDeclared.{type_limit, size_value, array_of, type_of_size, declared_type, limit_site, wanted_sites, fit_in, const_sites, size_sites, declared_sites}
+use Rattle.wg_typing.specs.TypingExpr.{part}
 use Rattle.wg_tree.specs.declared.expr.Expr.{Expr}
 use Rattle.wg_tree.specs.declared.expr.Named.{Named}
 use Rattle.wg_tree.specs.declared.expr.TypeName.{TypeName}
@@ -23,8 +23,8 @@ use Rattle.wg_tree.specs.declared.expr.ValueType.{ValueType}
 use Rattle.wg_tree.specs.declared.expr.ValueType.TheVariants as value_type
 use Rattle.wg_tree.specs.declared.types.ConstValue.{ConstValue}
 use Rattle.wg_tree.specs.declared.types.TypeTree.{TypeTree}
-use Rattle.wg_tree.specs.declared.scope.Meant.{Meant}
-use Rattle.wg_tree.specs.declared.scope.Meant.TheVariants as meant
+use Rattle.wg_typing.specs.declared.scope.Meant.{Meant}
+use Rattle.wg_typing.specs.declared.scope.Meant.TheVariants as meant
 use Rattle.wg_typing.proofs.Exprs.{has_value}
 use Rattle.wg_typing.proofs.Facts.{Empty, Has, empty_left, empty_right, has_then, has_where, holds_nowhere, is_false, is_some_has, not_false}
 use Rattle.wg_typing.proofs.Layers.{Sound}

@@ -1,5 +1,5 @@
 ghost use Rattle.std.specs.Prelude.{◌≡◌, Some};
-ghost use Rattle.wg_tree.specs.Typing.{IsWellTyped, typed};
+ghost use Rattle.wg_typing.specs.Typing.{IsWellTyped, typed};
 ghost use Rattle.wg_tree.specs.declared.item.Source.{Source};
 ghost use Rattle.wg_tree.specs.declared.typed.Typed.{Typed};
 

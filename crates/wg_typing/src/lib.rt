@@ -2,5 +2,7 @@
 #![tactic(auto)]
 
 mod law;
+mod scope;
 
 pub use law::well_typed_has_its_form;
+pub use scope::{Act, Declared, FormalParameter, Meant, Object, Standing, Value};

@@ -1,0 +1,34 @@
+-- Rule 403 of attributes: the second of one name, of the two grids of a node, or of the two bounds of an output. Its number is own.
+use Rattle.std.specs.Prelude.{Bool, true, false, ◌||◌, List, [], map, Option, Some}
+use Rattle.std.specs.Str.{bytes_eq}
+use Rattle.std.specs.List.{list_any}
+use Rattle.wg_words.specs.declared.place.Place.{Place}
+use Rattle.wg_typing.specs.Named.{small}
+use Rattle.wg_typing.specs.AttributeSites.{Site, AtAttribute, AtNode, AtInput, AtOutput, AtValue, Position}
+use Rattle.wg_typing.specs.AttributeNames.{Name, dispatch_grid, max_dispatch_grid, max_records, max_records_shared_with, standing}
+use Rattle.wg_typing.specs.SiteTree.{at_if}
+use Rattle.wg_tree.specs.declared.typed_stmt.TypedAttribute.{TypedAttribute}
+
+abbrev pub are_rivals : Name → Name → Bool
+are_rivals dispatch_grid max_dispatch_grid = true
+are_rivals max_dispatch_grid dispatch_grid = true
+are_rivals max_records max_records_shared_with = true
+are_rivals max_records_shared_with max_records = true
+are_rivals _ _ = false
+
+abbrev pub rival_names : Option Name → Option Name → Bool
+rival_names (Some x) (Some y) = are_rivals x y
+rival_names _ _ = false
+
+abbrev pub has_one_name : TypedAttribute → TypedAttribute → Bool
+has_one_name a b = bytes_eq (map small a.name.name) (map small b.name.name)
+
+abbrev pub clashes : Position → TypedAttribute → TypedAttribute → Bool
+clashes position a b = has_one_name b a || rival_names (standing position b) (standing position a)
+
+abbrev pub twice_at : Site → List Place
+twice_at (AtAttribute position before a) = at_if (list_any (clashes position a) before) a.name.place
+twice_at (AtNode f fields) = []
+twice_at (AtInput mode word p) = []
+twice_at (AtOutput array p) = []
+twice_at (AtValue mode p) = []

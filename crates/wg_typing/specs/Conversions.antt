@@ -1,0 +1,209 @@
+-- Which types convert to which, and the types in which operators reckon (HLSL Shader Model 6.8, without implicit truncation; the
+-- sizes of the operands of a shift are own).
+use Rattle.std.specs.Prelude.{ℕ, ◌==◌, Bool, true, false, ◌&&◌, ◌||◌, nat_lt, if◌then◌else◌, Option, Some, None}
+use Rattle.wg_typing.specs.Maybe.{◌>>=◌, where_true}
+use Rattle.wg_tree.specs.declared.expr.Scalar.{Scalar}
+use Rattle.wg_tree.specs.declared.expr.Scalar.TheVariants as scalar
+use Rattle.wg_tree.specs.declared.expr.ValueType.{ValueType}
+use Rattle.wg_tree.specs.declared.expr.ValueType.TheVariants as value_type
+use Rattle.wg_tree.specs.declared.expr.BinaryOperator.{BinaryOperator}
+use Rattle.wg_tree.specs.declared.expr.BinaryOperator.TheVariants as binary
+use Rattle.wg_tree.specs.declared.types.ElementType.{ElementType}
+use Rattle.wg_tree.specs.declared.types.ElementType.TheVariants as element
+use Rattle.wg_tree.specs.declared.types.TypeTree.{TypeTree}
+use Rattle.wg_tree.specs.declared.types.TypeTree.TheVariants as type
+
+-- ---- equal types
+
+abbrev pub same_scalar : Scalar → Scalar → Bool
+same_scalar scalar.Bool scalar.Bool = true
+same_scalar scalar.Int scalar.Int = true
+same_scalar scalar.Uint scalar.Uint = true
+same_scalar _ _ = false
+
+abbrev pub same_element : ElementType → ElementType → Bool
+same_element (element.Scalar a) (element.Scalar b) = same_scalar a b
+same_element (element.Vector a m) (element.Vector b n) = same_scalar a b && m == n
+same_element (element.Struct a) (element.Struct b) = a == b
+same_element _ _ = false
+
+-- Equal struct types are of one name.
+abbrev pub same_type : TypeTree → TypeTree → Bool
+same_type (type.Scalar a) (type.Scalar b) = same_scalar a b
+same_type (type.Vector a m) (type.Vector b n) = same_scalar a b && m == n
+same_type (type.Struct a) (type.Struct b) = a == b
+same_type (type.Array a m) (type.Array b n) = same_element a b && m == n
+same_type _ _ = false
+
+-- ---- types of numbers
+
+-- a scalar, or a vector of so many of them
+pub record Numbers : Type 0 where
+  pub of : Scalar
+  pub size : Option ℕ
+
+abbrev pub numbers : TypeTree → Option Numbers
+numbers (type.Scalar of) = Some (record { of = of; size = None })
+numbers (type.Vector of n) = Some (record { of = of; size = Some n })
+numbers (type.Struct number) = None
+numbers (type.Array of n) = None
+
+abbrev pub sized : Scalar → Option ℕ → TypeTree
+sized of None = type.Scalar of
+sized of (Some n) = type.Vector of n
+
+abbrev pub type_of : Numbers → TypeTree
+type_of n = sized n.of n.size
+
+abbrev pub of_value_type : ValueType → TypeTree
+of_value_type (value_type.Scalar of) = type.Scalar of
+of_value_type (value_type.Vector of n) = type.Vector of n
+
+abbrev pub truth_type : TypeTree
+truth_type = type.Scalar scalar.Bool
+
+abbrev pub uint_type : TypeTree
+uint_type = type.Scalar scalar.Uint
+
+-- as many `uint` as that: a scalar for one
+abbrev pub uints : ℕ → TypeTree
+uints n = if n == 1 then uint_type else type.Vector scalar.Uint n
+
+abbrev pub is_number : TypeTree → Bool
+is_number (type.Scalar of) = true
+is_number (type.Vector of n) = true
+is_number (type.Struct number) = false
+is_number (type.Array of n) = false
+
+abbrev pub is_scalar : TypeTree → Bool
+is_scalar (type.Scalar of) = true
+is_scalar _ = false
+
+-- `int` or `uint`
+abbrev pub is_word : TypeTree → Bool
+is_word (type.Scalar scalar.Int) = true
+is_word (type.Scalar scalar.Uint) = true
+is_word _ = false
+
+abbrev pub is_uint : Scalar → Bool
+is_uint scalar.Uint = true
+is_uint _ = false
+
+-- a number without a suffix is `int` below 2^31
+abbrev pub number_type : ℕ → Bool → TypeTree
+number_type n true = uint_type
+number_type n false = if nat_lt n 2147483648 then type.Scalar scalar.Int else uint_type
+
+-- ---- conversions
+
+-- a scalar fills a vector; two vectors have equal sizes
+abbrev pub size_fits : Option ℕ → Option ℕ → Bool
+size_fits None goal = true
+size_fits (Some m) (Some n) = m == n
+size_fits (Some m) None = false
+
+abbrev pub numbers_fit : Option Numbers → Option Numbers → Bool
+numbers_fit (Some a) (Some b) = size_fits a.size b.size
+numbers_fit _ _ = false
+
+-- whether a value of the one type may stand where the other is wanted: the three scalars convert to each other
+abbrev pub fits : TypeTree → TypeTree → Bool
+fits from goal = same_type from goal || numbers_fit (numbers from) (numbers goal)
+
+-- ---- common types
+
+-- a scalar with a vector is taken for each component
+abbrev pub common_size : Option ℕ → Option ℕ → Option (Option ℕ)
+common_size None b = Some b
+common_size (Some m) None = Some (Some m)
+common_size (Some m) (Some n) = where_true (m == n) (Some m)
+
+-- in arithmetic `bool` becomes `int`
+abbrev pub counted : Scalar → Scalar
+counted scalar.Bool = scalar.Int
+counted scalar.Int = scalar.Int
+counted scalar.Uint = scalar.Uint
+
+-- `int` with `uint` becomes `uint`
+abbrev pub common_scalar : Scalar → Scalar → Scalar
+common_scalar a b = if is_uint a || is_uint b then scalar.Uint else scalar.Int
+
+-- the same, where two `bool` stay `bool`
+abbrev pub chosen_scalar : Scalar → Scalar → Scalar
+chosen_scalar scalar.Bool scalar.Bool = scalar.Bool
+chosen_scalar a b = common_scalar a b
+
+abbrev pub common : Numbers → Numbers → Option Numbers
+common a b = common_size a.size b.size >>= (λ size. Some (record { of = common_scalar a.of b.of; size = size }))
+
+abbrev pub chosen : Numbers → Numbers → Option Numbers
+chosen a b = common_size a.size b.size >>= (λ size. Some (record { of = chosen_scalar a.of b.of; size = size }))
+
+-- ---- operators
+
+pub data Class : Type 0 where
+  arithmetic : Class
+  shift : Class
+  comparison : Class
+  logic : Class
+
+abbrev pub class_of : BinaryOperator → Class
+class_of binary.Multiply = arithmetic
+class_of binary.Divide = arithmetic
+class_of binary.Remainder = arithmetic
+class_of binary.Add = arithmetic
+class_of binary.Subtract = arithmetic
+class_of binary.ShiftLeft = shift
+class_of binary.ShiftRight = shift
+class_of binary.Less = comparison
+class_of binary.Greater = comparison
+class_of binary.AtMost = comparison
+class_of binary.AtLeast = comparison
+class_of binary.Equal = comparison
+class_of binary.NotEqual = comparison
+class_of binary.BitAnd = arithmetic
+class_of binary.BitXor = arithmetic
+class_of binary.BitOr = arithmetic
+class_of binary.And = logic
+class_of binary.Or = logic
+
+-- whether an operand may be of the type, whatever the other one
+abbrev pub suits : Class → TypeTree → Bool
+suits arithmetic t = is_number t
+suits shift t = is_number t
+suits comparison t = is_number t
+suits logic t = is_scalar t
+
+-- the types to which the operands are converted, and the type of the result
+pub record Operation : Type 0 where
+  pub left : Numbers
+  pub right : Numbers
+  pub result : Numbers
+
+abbrev pub truths : Option ℕ → Numbers
+truths size = record { of = scalar.Bool; size = size }
+
+-- A shift has the left type, of the common size, and its count keeps its own scalar.
+abbrev pub operation : Class → Numbers → Numbers → Option Operation
+operation arithmetic a b = common a b >>= (λ c. Some (record { left = c; right = c; result = c }))
+operation shift a b = common_size a.size b.size >>= (λ size. Some (record {
+  left = record { of = counted a.of; size = size };
+  right = record { of = counted b.of; size = size };
+  result = record { of = counted a.of; size = size };
+}))
+operation comparison a b = common a b >>= (λ c. Some (record { left = c; right = c; result = truths c.size }))
+operation logic a b = Some (record { left = truths None; right = truths None; result = truths None })
+
+abbrev pub operation_on : BinaryOperator → TypeTree → TypeTree → Option Operation
+operation_on operator a b = do
+  left ← numbers a
+  right ← numbers b
+  operation (class_of operator) left right
+
+-- ---- elements
+
+abbrev pub element_of : TypeTree → Option ElementType
+element_of (type.Scalar of) = Some (element.Scalar of)
+element_of (type.Vector of n) = Some (element.Vector of n)
+element_of (type.Struct number) = Some (element.Struct number)
+element_of (type.Array of n) = None

@@ -1,0 +1,23 @@
+-- Repeated: two of one name in a scope; the second. Own number.
+use Rattle.std.specs.Prelude.{List, []}
+use Rattle.wg_words.specs.declared.place.Place.{Place}
+use Rattle.wg_typing.specs.Named.{is_among}
+use Rattle.wg_typing.specs.SiteTree.{at_if}
+use Rattle.wg_typing.specs.Sites.{Site, AtExpr, AtFlag, AtWanted, AtConst, AtStep, AtHandle, AtReturn, AtJump, AtType, AtName, AtSize, AtLocal, AtLimit, AtObject, AtFunction}
+
+abbrev pub repeated : Site → List Place
+repeated (AtExpr c place layer) = []
+repeated (AtFlag v) = []
+repeated (AtWanted c goal e) = []
+repeated (AtConst c e) = []
+repeated (AtStep c header s) = []
+repeated (AtHandle c of name number e) = []
+repeated (AtReturn c place e) = []
+repeated (AtJump c place) = []
+repeated (AtType c of) = []
+repeated (AtName scope name) = at_if (is_among scope name.name) name.place
+repeated (AtSize name v) = []
+repeated (AtLocal name words) = []
+repeated (AtLimit name amount limit) = []
+repeated (AtObject allowed of record_type) = []
+repeated (AtFunction name around has_result events) = []

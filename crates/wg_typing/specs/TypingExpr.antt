@@ -1,0 +1,186 @@
+-- The typed form of an expression, and its sites: a fold over one layer of the tree (HLSL Shader Model 6.8, expressions).
+use Rattle.std.specs.Prelude.{ℕ, if◌then◌else◌, List, map, Option, Some}
+use Rattle.wg_words.specs.declared.place.Place.{Place}
+use Rattle.wg_typing.specs.Maybe.{◌>>=◌}
+use Rattle.wg_typing.specs.Conversions.{numbers, of_value_type}
+use Rattle.wg_typing.specs.Scope.{Context, look}
+use Rattle.wg_typing.specs.Layers.{Layer, FormLayer, member, method, index, LinkLayer, map_layer, Part}
+use Rattle.wg_typing.specs.TypingCallee.{Callee, plain, entry, itself, builtin, broken, unknown, on_numbers, interlocked, levels, barrier, barrier_of, callee}
+use Rattle.wg_typing.specs.TypingCalls.{call_value}
+use Rattle.wg_typing.specs.TypingConstructor.{constructed}
+use Rattle.wg_typing.specs.SiteTree.{Sites, nowhere, only, ◌&◌, all_sites}
+use Rattle.wg_typing.specs.Sites.{Site, AtExpr, AtFlag}
+use Rattle.wg_typing.specs.TypingName.{number_value, truth_value, named_value}
+use Rattle.wg_typing.specs.TypingOperators.{prefix_value, cast_value, zeros_value, choice_value, chain_value}
+use Rattle.wg_typing.specs.TypingForms.{postfix_value}
+use Rattle.wg_typing.specs.TypingFlags.{all_or, layer_pieces}
+use Rattle.wg_tree.specs.declared.expr.Named.{Named}
+use Rattle.wg_tree.specs.declared.expr.Expr.{Expr, fold-Expr}
+use Rattle.wg_tree.specs.declared.expr.Expr.TheOpen.{Expr-F, Form-F, Link-F}
+use Rattle.wg_typing.specs.declared.scope.Value.{Value}
+use Rattle.wg_typing.specs.declared.scope.Value.TheVariants as value
+
+-- the typed form of an expression whose parts have these; none where a part has none or a rule is broken
+abbrev pub layer_value : Context → Place → Layer Part → Option Value
+layer_value c place (Expr-F.Number at n unsigned) = number_value place n unsigned
+layer_value c place (Expr-F.Text at bytes) = Some (value.Text bytes)
+layer_value c place (Expr-F.Truth at b) = truth_value place b
+layer_value c place (Expr-F.Name name) = named_value c.around name (look name.name c.names)
+layer_value c place (Expr-F.Call name parts) = call_value c place (callee c name) parts
+layer_value c place (Expr-F.Construct at of parts) = numbers (of_value_type of) >>= (λ goal. constructed place goal parts)
+layer_value c place (Expr-F.Bracket at inner) = inner.value
+layer_value c place (Expr-F.Prefix at operator operand) = prefix_value place operator operand
+layer_value c place (Expr-F.Cast at to operand) = cast_value place (of_value_type to) operand
+layer_value c place (Expr-F.Zeros at of) = zeros_value place (look of.name c.names)
+layer_value c place (Expr-F.Postfix first forms) = postfix_value c place first forms
+layer_value c place (Expr-F.Chain first rest) = chain_value place first rest
+layer_value c place (Expr-F.Choice test first second) = choice_value place test first second
+
+-- what an expression that is alone is
+pub data Alone : Type 0 where
+  a_text : List ℕ → Alone
+  a_name : Named → Alone
+  neither : Alone
+
+-- an expression as a part, its sites, its sites as an argument of a barrier, and what it is alone
+pub record Seen : Type 0 where
+  pub part : Part
+  pub sites : Sites Site
+  pub flag_sites : Sites Site
+  pub alone : Alone
+
+abbrev pub first_token : Layer Part → Place
+first_token (Expr-F.Number at n unsigned) = at
+first_token (Expr-F.Text at bytes) = at
+first_token (Expr-F.Truth at b) = at
+first_token (Expr-F.Name name) = name.place
+first_token (Expr-F.Call name parts) = name.place
+first_token (Expr-F.Construct at of parts) = at
+first_token (Expr-F.Bracket at inner) = at
+first_token (Expr-F.Prefix at operator operand) = at
+first_token (Expr-F.Cast at to operand) = at
+first_token (Expr-F.Zeros at of) = at
+first_token (Expr-F.Postfix first forms) = first.place
+first_token (Expr-F.Chain first rest) = first.place
+first_token (Expr-F.Choice test a b) = test.place
+
+abbrev pub sites_of_all : List Seen → Sites Site
+sites_of_all seen = all_sites (map (λ (s : Seen). s.sites) seen)
+
+abbrev pub flag_sites_of_all : List Seen → Sites Site
+flag_sites_of_all seen = all_sites (map (λ (s : Seen). s.flag_sites) seen)
+
+abbrev pub form_sites : FormLayer Seen → Sites Site
+form_sites (member name) = nowhere
+form_sites (method name arguments) = sites_of_all arguments
+form_sites (index at) = at.sites
+
+abbrev pub link_sites : LinkLayer Seen → Sites Site
+link_sites l = l.operand.sites
+
+-- the arguments of `Barrier` are read as flags
+abbrev pub argument_sites : Callee → List Seen → Sites Site
+argument_sites (plain number result parameters chain) arguments = sites_of_all arguments
+argument_sites entry arguments = sites_of_all arguments
+argument_sites itself arguments = sites_of_all arguments
+argument_sites (builtin (on_numbers i)) arguments = sites_of_all arguments
+argument_sites (builtin (interlocked f)) arguments = sites_of_all arguments
+argument_sites (builtin levels) arguments = sites_of_all arguments
+argument_sites (builtin (barrier syncs)) arguments = sites_of_all arguments
+argument_sites (builtin barrier_of) arguments = flag_sites_of_all arguments
+argument_sites broken arguments = sites_of_all arguments
+argument_sites unknown arguments = sites_of_all arguments
+
+-- the sites of the parts
+abbrev pub inner_sites : Context → Layer Seen → Sites Site
+inner_sites c (Expr-F.Number at n unsigned) = nowhere
+inner_sites c (Expr-F.Text at bytes) = nowhere
+inner_sites c (Expr-F.Truth at b) = nowhere
+inner_sites c (Expr-F.Name name) = nowhere
+inner_sites c (Expr-F.Call name arguments) = argument_sites (callee c name) arguments
+inner_sites c (Expr-F.Construct at of arguments) = sites_of_all arguments
+inner_sites c (Expr-F.Bracket at inner) = inner.sites
+inner_sites c (Expr-F.Prefix at operator operand) = operand.sites
+inner_sites c (Expr-F.Cast at to operand) = operand.sites
+inner_sites c (Expr-F.Zeros at of) = nowhere
+inner_sites c (Expr-F.Postfix first forms) = first.sites & all_sites (map form_sites forms)
+inner_sites c (Expr-F.Chain first rest) = first.sites & all_sites (map link_sites rest)
+inner_sites c (Expr-F.Choice test a b) = test.sites & a.sites & b.sites
+
+abbrev pub link_flag_sites : LinkLayer Seen → Sites Site
+link_flag_sites l = l.operand.flag_sites
+
+-- the sites of an argument of a barrier: a flag and the number 0 have none, an expression that is no flag has its own
+abbrev pub flags_at : Sites Site → Layer Seen → Sites Site
+flags_at own (Expr-F.Number at n unsigned) = nowhere
+flags_at own (Expr-F.Text at bytes) = own
+flags_at own (Expr-F.Truth at b) = own
+flags_at own (Expr-F.Name name) = nowhere
+flags_at own (Expr-F.Call name arguments) = own
+flags_at own (Expr-F.Construct at of arguments) = own
+flags_at own (Expr-F.Bracket at inner) = inner.flag_sites
+flags_at own (Expr-F.Prefix at operator operand) = own
+flags_at own (Expr-F.Cast at to operand) = own
+flags_at own (Expr-F.Zeros at of) = own
+flags_at own (Expr-F.Postfix first forms) = own
+flags_at own (Expr-F.Chain first rest) = if all_or rest then first.flag_sites & all_sites (map link_flag_sites rest) else own
+flags_at own (Expr-F.Choice test a b) = own
+
+abbrev pub alone_of : {P : Type 0} → Layer P → Alone
+alone_of (Expr-F.Number at n unsigned) = neither
+alone_of (Expr-F.Text at bytes) = a_text bytes
+alone_of (Expr-F.Truth at b) = neither
+alone_of (Expr-F.Name name) = a_name name
+alone_of (Expr-F.Call name parts) = neither
+alone_of (Expr-F.Construct at of parts) = neither
+alone_of (Expr-F.Bracket at inner) = neither
+alone_of (Expr-F.Prefix at operator operand) = neither
+alone_of (Expr-F.Cast at to operand) = neither
+alone_of (Expr-F.Zeros at of) = neither
+alone_of (Expr-F.Postfix first forms) = neither
+alone_of (Expr-F.Chain first rest) = neither
+alone_of (Expr-F.Choice test a b) = neither
+
+abbrev pub part_of : Seen → Part
+part_of s = s.part
+
+-- the part that a layer makes, at its first token
+abbrev pub layer_part : Context → Layer Part → Part
+layer_part c layer = record {
+  place = first_token layer;
+  value = layer_value c (first_token layer) layer;
+  pieces = layer_pieces (layer_value c (first_token layer) layer) layer;
+}
+
+abbrev pub layer_sites : Context → Layer Seen → Sites Site
+layer_sites c layer = inner_sites c layer & only (AtExpr c (first_token (map_layer part_of layer)) (map_layer part_of layer))
+
+-- The arguments of a barrier are no values, so what one is that is no flag is looked at here: it may be an output call, or a barrier.
+abbrev pub no_flag_sites : Context → Layer Seen → Sites Site
+no_flag_sites c layer = layer_sites c layer & only (AtFlag (layer_part c (map_layer part_of layer)).value)
+
+abbrev pub expr_seen : Context → Layer Seen → Seen
+expr_seen c layer = record {
+  part = layer_part c (map_layer part_of layer);
+  sites = layer_sites c layer;
+  flag_sites = flags_at (no_flag_sites c layer) layer;
+  alone = alone_of layer;
+}
+
+abbrev pub form_seen : Form-F Seen (FormLayer Seen) (LinkLayer Seen) → FormLayer Seen
+form_seen (Form-F.Member name) = member name
+form_seen (Form-F.Method name arguments) = method name arguments
+form_seen (Form-F.Index place at) = index at
+
+abbrev pub link_seen : Link-F Seen (FormLayer Seen) (LinkLayer Seen) → LinkLayer Seen
+link_seen l = record { operator = l.operator; operand = l.operand }
+
+-- an expression in its context
+abbrev pub seen : Context → Expr → Seen
+seen c = fold-Expr Seen (FormLayer Seen) (LinkLayer Seen) (expr_seen c) form_seen link_seen
+
+abbrev pub part : Context → Expr → Part
+part c e = (seen c e).part
+
+abbrev pub sites_of : Context → Expr → Sites Site
+sites_of c e = (seen c e).sites

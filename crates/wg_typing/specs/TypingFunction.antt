@@ -1,0 +1,139 @@
+-- The typed form of a function: its parameters, and its body in a scope of its own (HLSL Shader Model 6.8, functions).
+use Rattle.std.specs.Prelude.{ℕ, suc, Bool, true, false, if◌then◌else◌, List, [], length, map, Option, Some, None, unwrap_or}
+use Rattle.wg_typing.specs.Maybe.{◌>>=◌, all_of}
+use Rattle.wg_typing.specs.Scope.{Context, Around, in_entry, in_plain, in_const, Gives, nothing, a_value, unsure, declare, named_type}
+use Rattle.wg_typing.specs.AttributeArguments.{is_entry, lanes_of}
+use Rattle.wg_typing.specs.TypingAttributes.{attributes_of, attribute_sites}
+use Rattle.wg_typing.specs.TypingStmt.{block_after, block_sites, block_trees, walked}
+use Rattle.wg_typing.specs.SiteTree.{Sites, nowhere, only, ◌&◌}
+use Rattle.wg_typing.specs.Sites.{Site, AtType, AtName, AtFunction}
+use Rattle.wg_typing.specs.TypingEvents.{events, chain_of}
+use Rattle.wg_typing.specs.TypingSoFar.{Text, outside, text_names}
+use Rattle.wg_typing.specs.TypingParameter.{Before, parameters_after, parameters_sites, parameters_trees}
+use Rattle.wg_tree.specs.declared.expr.Named.{Named}
+use Rattle.wg_tree.specs.declared.stmt.Attribute.{Attribute}
+use Rattle.wg_tree.specs.declared.stmt.Stmt.{Stmt}
+use Rattle.wg_tree.specs.declared.item.Directed.{Directed}
+use Rattle.wg_tree.specs.declared.item.Direction.{Direction}
+use Rattle.wg_tree.specs.declared.item.Direction.TheVariants as direction
+use Rattle.wg_tree.specs.declared.item.Parameter.{Parameter}
+use Rattle.wg_tree.specs.declared.item.ResultType.{ResultType}
+use Rattle.wg_tree.specs.declared.item.ResultType.TheVariants as result_type
+use Rattle.wg_tree.specs.declared.types.TypeTree.{TypeTree}
+use Rattle.wg_tree.specs.declared.typed.TypedParameter.{TypedParameter}
+use Rattle.wg_tree.specs.declared.typed.TypedParameterType.{TypedParameterType}
+use Rattle.wg_tree.specs.declared.typed.TypedParameterType.TheVariants as typed_parameter
+use Rattle.wg_tree.specs.declared.typed.TypedFunction.{TypedFunction}
+use Rattle.wg_typing.specs.declared.scope.Meant.{Meant}
+use Rattle.wg_typing.specs.declared.scope.Meant.TheVariants as meant
+use Rattle.wg_typing.specs.declared.scope.FormalParameter.{FormalParameter}
+
+abbrev pub parameter_names : List Parameter → List (List ℕ)
+parameter_names parameters = map (λ (p : Parameter). p.name.name) parameters
+
+abbrev pub around_of : Context → List Attribute → Around
+around_of c attributes = if is_entry (attributes_of c attributes) then in_entry (lanes_of (attributes_of c attributes)) else in_plain
+
+abbrev pub gives_if : Option TypeTree → Gives
+gives_if (Some of) = a_value of
+gives_if None = unsure
+
+abbrev pub gives : Context → ResultType → Gives
+gives c (result_type.Void place) = nothing
+gives c (result_type.Value of) = gives_if (named_type c.names of)
+
+abbrev pub result_sites : Context → ResultType → Sites Site
+result_sites c (result_type.Void place) = nowhere
+result_sites c (result_type.Value of) = only (AtType c of)
+
+abbrev pub has_result : ResultType → Bool
+has_result (result_type.Void place) = false
+has_result (result_type.Value of) = true
+
+-- the context of a function's attributes, in which its parameters may be named
+abbrev pub head_context : Text → List Parameter → Context
+head_context x parameters = record (outside x) { parameters = parameter_names parameters }
+
+-- the context of its parameters, a scope after its own name
+abbrev pub parameter_context : Text → List Attribute → ResultType → Named → List Parameter → Context
+parameter_context x attributes result name parameters =
+    record (declare name meant.Itself (head_context x parameters)) {
+      start = suc (length x.names);
+      around = around_of (head_context x parameters) attributes;
+      returns = gives (outside x) result;
+    }
+
+abbrev pub first_before : Before
+first_before = record { number = 0; has_input = false; outputs = 0 }
+
+-- the context of its body, a scope after its parameters
+abbrev pub body_context : Context → List Parameter → Context
+body_context c parameters = record (parameters_after first_before parameters c) {
+  start = length (parameters_after first_before parameters c).names;
+  direct = true;
+}
+
+abbrev pub body_sites : Context → List Stmt → Sites Site
+body_sites c body = block_sites (map walked body) c
+
+abbrev pub function_sites : Text → List Attribute → ResultType → Named → List Parameter → List Stmt → Sites Site
+function_sites x attributes result name parameters body =
+    let c = parameter_context x attributes result name parameters in
+    let inner = body_sites (body_context c parameters) body in
+    attribute_sites (head_context x parameters) attributes & result_sites (outside x) result & only (AtName (text_names x) name)
+    & parameters_sites first_before parameters c & inner & only (AtFunction name c.around (has_result result) (events inner))
+
+abbrev pub result_if : Gives → Option (Option TypeTree)
+result_if nothing = Some None
+result_if (a_value of) = Some (Some of)
+result_if unsure = None
+
+abbrev pub function_tree : Context → Context → List Attribute → Named → List Parameter → List Stmt → Option TypedFunction
+function_tree head c attributes name parameters body = do
+  result ← result_if c.returns
+  typed_parameters ← parameters_trees first_before parameters c
+  statements ← block_trees (map walked body) (body_context c parameters)
+  typed_handles ← all_of (block_after (map walked body) (body_context c parameters)).handles
+  Some (record {
+    attributes = attributes_of head attributes;
+    result = result;
+    name = name;
+    parameters = typed_parameters;
+    locals = (block_after (map walked body) (body_context c parameters)).locals;
+    handles = typed_handles;
+    body = statements;
+  })
+
+abbrev pub direction_of : Option Directed → Direction
+direction_of None = direction.In
+direction_of (Some d) = d.direction
+
+-- a parameter of a plain function
+abbrev pub passed_if : Option Directed → TypedParameterType → Option FormalParameter
+passed_if d (typed_parameter.Value of) = Some (record { direction = direction_of d; of = of })
+passed_if d (typed_parameter.Object place word number) = None
+
+abbrev pub passed_of : List TypedParameter → Option (List FormalParameter)
+passed_of parameters = all_of (map (λ (p : TypedParameter). passed_if p.direction p.of) parameters)
+
+abbrev pub is_entry_around : Around → Bool
+is_entry_around (in_entry lanes) = true
+is_entry_around in_plain = false
+is_entry_around (in_const allowed) = false
+
+-- the parameters that a call has to give; an entry function is not called
+abbrev pub passed_in : Around → List TypedParameter → Option (List FormalParameter)
+passed_in (in_entry lanes) parameters = Some []
+passed_in in_plain parameters = passed_of parameters
+passed_in (in_const allowed) parameters = None
+
+abbrev pub function_if : ℕ → Context → ℕ → List Parameter → Option Meant
+function_if number c chain parameters = do
+  result ← result_if c.returns
+  typed_parameters ← parameters_trees first_before parameters c
+  passed ← passed_in c.around typed_parameters
+  Some (meant.Function number (is_entry_around c.around) result passed chain)
+
+abbrev pub function_meant : ℕ → Context → List Parameter → List Stmt → Meant
+function_meant number c parameters body =
+    unwrap_or (function_if number c (chain_of (events (body_sites (body_context c parameters) body))) parameters) meant.Broken

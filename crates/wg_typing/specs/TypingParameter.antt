@@ -1,0 +1,172 @@
+-- The parameters of a function: values, and in an entry function one input and outputs (DirectX-Specs, Work Graphs, node inputs and outputs).
+use Rattle.std.specs.Prelude.{ℕ, suc, Bool, true, false, not, ◌||◌, if◌then◌else◌, List, [], ◌∷◌, Option, Some, None}
+use Rattle.wg_typing.specs.Maybe.{◌>>=◌, where_true}
+use Rattle.wg_typing.specs.Scope.{Context, Around, in_entry, in_plain, in_const, own_names, declare, named_type}
+use Rattle.wg_typing.specs.TypingAttributes.{attributes_of, attribute_sites}
+use Rattle.wg_typing.specs.TypingHandle.{record_number, object_sites}
+use Rattle.wg_typing.specs.SiteTree.{Sites, nowhere, only, ◌&◌}
+use Rattle.wg_typing.specs.Sites.{Site, AtType, AtName, AtLimit}
+use Rattle.wg_tree.specs.declared.expr.Named.{Named}
+use Rattle.wg_tree.specs.declared.expr.TypeName.{TypeName}
+use Rattle.wg_tree.specs.declared.stmt.ObjectType.{ObjectType}
+use Rattle.wg_tree.specs.declared.stmt.ObjectWord.{ObjectWord}
+use Rattle.wg_tree.specs.declared.stmt.ObjectWord.TheVariants as object_word
+use Rattle.wg_tree.specs.declared.item.Parameter.{Parameter}
+use Rattle.wg_tree.specs.declared.item.ParameterType.{ParameterType}
+use Rattle.wg_tree.specs.declared.item.ParameterType.TheVariants as parameter_type
+use Rattle.wg_tree.specs.declared.types.TypeTree.{TypeTree}
+use Rattle.wg_tree.specs.declared.typed.TypedParameter.{TypedParameter}
+use Rattle.wg_tree.specs.declared.typed.TypedParameterType.{TypedParameterType}
+use Rattle.wg_tree.specs.declared.typed.TypedParameterType.TheVariants as typed_parameter
+use Rattle.wg_typing.specs.declared.scope.Meant.{Meant}
+use Rattle.wg_typing.specs.declared.scope.Meant.TheVariants as meant
+use Rattle.wg_typing.specs.declared.scope.Object.{Object}
+use Rattle.wg_typing.specs.declared.scope.Object.TheVariants as object
+use Rattle.wg_typing.specs.declared.scope.Standing.{Standing}
+use Rattle.wg_typing.specs.declared.scope.Standing.TheVariants as standing
+
+-- what an object's word makes of a parameter of an entry function
+pub data Role : Type 0 where
+  an_input : Bool → Standing → Role
+  an_output : Bool → Role
+  no_role : Role
+
+abbrev pub role_of : ObjectWord → Role
+role_of object_word.DispatchNodeInputRecord = an_input false standing.Fixed
+role_of object_word.RwDispatchNodeInputRecord = no_role
+role_of object_word.GroupNodeInputRecords = an_input true standing.Fixed
+role_of object_word.RwGroupNodeInputRecords = an_input true standing.Own
+role_of object_word.ThreadNodeInputRecord = an_input false standing.Fixed
+role_of object_word.RwThreadNodeInputRecord = an_input false standing.Own
+role_of object_word.EmptyNodeInput = an_input true standing.Fixed
+role_of object_word.NodeOutput = an_output false
+role_of object_word.NodeOutputArray = an_output true
+role_of object_word.EmptyNodeOutput = an_output false
+role_of object_word.EmptyNodeOutputArray = an_output true
+role_of object_word.ThreadNodeOutputRecords = no_role
+role_of object_word.GroupNodeOutputRecords = no_role
+
+-- the parameters before: their number, whether one is an input, and how many are outputs
+pub record Before : Type 0 where
+  pub number : ℕ
+  pub has_input : Bool
+  pub outputs : ℕ
+
+abbrev pub is_input : Role → Bool
+is_input (an_input many s) = true
+is_input (an_output array) = false
+is_input no_role = false
+
+abbrev pub is_output : Role → Bool
+is_output (an_output array) = true
+is_output (an_input many s) = false
+is_output no_role = false
+
+abbrev pub role_in : ParameterType → Role
+role_in (parameter_type.Value of) = no_role
+role_in (parameter_type.Object of) = role_of of.word
+
+abbrev pub one_more : ParameterType → Before → Before
+one_more of b = record {
+  number = suc b.number;
+  has_input = b.has_input || is_input (role_in of);
+  outputs = if is_output (role_in of) then suc b.outputs else b.outputs;
+}
+
+-- whether an object may stand as a parameter: in an entry function, one input alone
+abbrev pub takes_role : Around → Bool → Role → Bool
+takes_role (in_entry lanes) has_input (an_input many s) = not has_input
+takes_role (in_entry lanes) has_input (an_output array) = true
+takes_role (in_entry lanes) has_input no_role = false
+takes_role in_plain has_input role = false
+takes_role (in_const allowed) has_input role = false
+
+-- the record type of an object that stands where it may: none where it is broken
+pub data Holds : Type 0 where
+  empty : Holds
+  records : ℕ → Holds
+  unsure_records : Holds
+
+abbrev pub holds_if : Option ℕ → Holds
+holds_if (Some number) = records number
+holds_if None = unsure_records
+
+abbrev pub holds_named : Option TypeName → Option ℕ → Holds
+holds_named None number = empty
+holds_named (Some of) number = holds_if number
+
+abbrev pub holds : Context → ObjectType → Holds
+holds c of = holds_named of.record_type (record_number c of)
+
+abbrev pub input_or_output : Role → ℕ → Option ℕ → Option Object
+input_or_output (an_input many s) outputs record_type = Some (object.Input many record_type s)
+input_or_output (an_output array) outputs record_type = Some (object.Output outputs array record_type None)
+input_or_output no_role outputs record_type = None
+
+abbrev pub role_object : Role → ℕ → Holds → Option Object
+role_object role outputs empty = input_or_output role outputs None
+role_object role outputs (records number) = input_or_output role outputs (Some number)
+role_object role outputs unsure_records = None
+
+abbrev pub object_if : Option Object → Meant
+object_if (Some o) = meant.Object o
+object_if None = meant.Broken
+
+abbrev pub value_if : ℕ → Option TypeTree → Meant
+value_if number (Some of) = meant.Parameter number of
+value_if number None = meant.Broken
+
+abbrev pub parameter_meant : Context → Before → ParameterType → Meant
+parameter_meant c b (parameter_type.Value of) = value_if b.number (named_type c.names of)
+parameter_meant c b (parameter_type.Object of) =
+    if takes_role c.around b.has_input (role_of of.word) then object_if (role_object (role_of of.word) b.outputs (holds c of)) else meant.Broken
+
+abbrev pub with_parameter : Before → Parameter → Context → Context
+with_parameter b p c = declare p.name (parameter_meant c b p.of) c
+
+abbrev pub parameters_after : Before → List Parameter → Context → Context
+parameters_after b [] c = c
+parameters_after b (p ∷ rest) c = parameters_after (one_more p.of b) rest (with_parameter b p c)
+
+abbrev pub parameter_type_sites : Context → Before → Named → ParameterType → Sites Site
+parameter_type_sites c b name (parameter_type.Value of) = only (AtType c of)
+parameter_type_sites c b name (parameter_type.Object of) = object_sites c (takes_role c.around b.has_input (role_of of.word)) of name
+
+abbrev pub output_limit : ℕ
+output_limit = 64
+
+-- the number of an output that is one more
+abbrev pub output_site : Before → Named → ParameterType → Sites Site
+output_site b name of = if is_output (role_in of) then only (AtLimit name (suc b.outputs) output_limit) else nowhere
+
+abbrev pub parameters_sites : Before → List Parameter → Context → Sites Site
+parameters_sites b [] c = nowhere
+parameters_sites b (p ∷ rest) c =
+    attribute_sites c p.attributes & parameter_type_sites c b p.name p.of & only (AtName (own_names c) p.name)
+    & output_site b p.name p.of & parameters_sites (one_more p.of b) rest (with_parameter b p c)
+
+abbrev pub object_tree : Context → ObjectType → Holds → Option TypedParameterType
+object_tree c of empty = Some (typed_parameter.Object of.place of.word None)
+object_tree c of (records number) = Some (typed_parameter.Object of.place of.word (Some number))
+object_tree c of unsure_records = None
+
+abbrev pub parameter_type_tree : Context → Before → ParameterType → Option TypedParameterType
+parameter_type_tree c b (parameter_type.Value of) = named_type c.names of >>= (λ of. Some (typed_parameter.Value of))
+parameter_type_tree c b (parameter_type.Object of) =
+    where_true (takes_role c.around b.has_input (role_of of.word)) of >>= (λ of. object_tree c of (holds c of))
+
+abbrev pub parameter_tree : Context → Before → Parameter → Option TypedParameter
+parameter_tree c b p = parameter_type_tree c b p.of >>= (λ of. Some (record {
+  attributes = attributes_of c p.attributes;
+  direction = p.direction;
+  of = of;
+  name = p.name;
+  semantic = p.semantic;
+}))
+
+abbrev pub parameters_trees : Before → List Parameter → Context → Option (List TypedParameter)
+parameters_trees b [] c = Some []
+parameters_trees b (p ∷ rest) c = do
+  first ← parameter_tree c b p
+  others ← parameters_trees (one_more p.of b) rest (with_parameter b p c)
+  Some (first ∷ others)

@@ -1,0 +1,144 @@
+-- The typed form of a statement, its sites, and the context after it: a fold over one layer of the tree (HLSL Shader Model 6.8, statements).
+use Rattle.std.specs.Prelude.{false, List, [], ◌∷◌, Option, Some, None}
+use Rattle.wg_words.specs.declared.place.Place.{Place}
+use Rattle.wg_typing.specs.Maybe.{◌>>=◌, where_true, if_there}
+use Rattle.wg_typing.specs.Conversions.{truth_type}
+use Rattle.wg_typing.specs.Scope.{Context, Gives, nothing, a_value, unsure, enter, enter_loop, leave}
+use Rattle.wg_typing.specs.TypingExpr.{sites_of}
+use Rattle.wg_typing.specs.TypingAttributes.{attributes_of, attribute_sites}
+use Rattle.wg_typing.specs.SiteTree.{Sites, nowhere, only, ◌&◌}
+use Rattle.wg_typing.specs.Sites.{Site, AtReturn, AtJump}
+use Rattle.wg_typing.specs.TypingDeclared.{fit_in, condition_sites}
+use Rattle.wg_typing.specs.TypingStep.{step_did, step_sites, step_stmt, header_trees, header_sites, maybe_steps}
+use Rattle.wg_typing.specs.TypingDeclaration.{declaration_after, declaration_sites, declaration_trees}
+use Rattle.wg_typing.specs.TypingHandle.{handle_record, handle_request, handle_tree, with_handle, handle_sites, request_stmt}
+use Rattle.wg_typing.specs.TypingLoop.{start_sites, start_tree, test_sites, in_header}
+use Rattle.wg_tree.specs.declared.expr.Expr.{Expr}
+use Rattle.wg_tree.specs.declared.stmt.Attribute.{Attribute}
+use Rattle.wg_tree.specs.declared.stmt.Header.{Header}
+use Rattle.wg_tree.specs.declared.stmt.Stmt.{Stmt, fold-Stmt}
+use Rattle.wg_tree.specs.declared.stmt.Stmt.TheOpen.{Stmt-F}
+use Rattle.wg_tree.specs.declared.typed_stmt.TypedStmt.{TypedStmt}
+use Rattle.wg_tree.specs.declared.typed_stmt.TypedStmt.TheVariants as t
+
+-- what a statement does in its context: the context after it, its sites, and its typed form if it has one
+pub record Walked : Type 0 where
+  pub after : Context
+  pub sites : Sites Site
+  pub tree : Option TypedStmt
+
+abbrev pub Walk : Type 0
+Walk = Context → Walked
+
+abbrev pub block_after : List Walk → Context → Context
+block_after [] c = c
+block_after (w ∷ rest) c = block_after rest (w c).after
+
+abbrev pub block_sites : List Walk → Context → Sites Site
+block_sites [] c = nowhere
+block_sites (w ∷ rest) c = (w c).sites & block_sites rest (w c).after
+
+abbrev pub block_trees : List Walk → Context → Option (List TypedStmt)
+block_trees [] c = Some []
+block_trees (w ∷ rest) c = do
+  first ← (w c).tree
+  others ← block_trees rest (w c).after
+  Some (first ∷ others)
+
+-- a branch in a scope of its own, and the context after it
+abbrev pub branch_after : Walk → Context → Context
+branch_after w c = leave c (w (enter c)).after
+
+abbrev pub else_after : Option Walk → Context → Context
+else_after None c = c
+else_after (Some w) c = branch_after w c
+
+abbrev pub else_sites : Option Walk → Context → Sites Site
+else_sites None c = nowhere
+else_sites (Some w) c = (w (enter c)).sites
+
+abbrev pub tree_in : Context → Walk → Option TypedStmt
+tree_in c w = (w c).tree
+
+abbrev pub stmt_after : Stmt-F Walk → Context → Context
+stmt_after (Stmt-F.Block place body) c = leave c (block_after body (enter c))
+stmt_after (Stmt-F.Empty place) c = c
+stmt_after (Stmt-F.Declare d) c = declaration_after d c
+stmt_after (Stmt-F.Handle of name e) c = with_handle name (handle_record c of) (handle_tree name (handle_request c of e)) c
+stmt_after (Stmt-F.Step s) c = c
+stmt_after (Stmt-F.Break place) c = c
+stmt_after (Stmt-F.Continue place) c = c
+stmt_after (Stmt-F.Return place e) c = c
+stmt_after (Stmt-F.If attributes place test first other) c = else_after other (branch_after first c)
+stmt_after (Stmt-F.While attributes place test body) c = leave c (body (enter_loop c)).after
+stmt_after (Stmt-F.For attributes place h body) c = leave c (body (enter_loop (in_header h c))).after
+
+abbrev pub returned_sites : Context → Place → Option Expr → Sites Site
+returned_sites c place None = only (AtReturn c place None)
+returned_sites c place (Some e) = sites_of c e & only (AtReturn c place (Some e))
+
+abbrev pub stmt_sites : Stmt-F Walk → Context → Sites Site
+stmt_sites (Stmt-F.Block place body) c = block_sites body (enter c)
+stmt_sites (Stmt-F.Empty place) c = nowhere
+stmt_sites (Stmt-F.Declare d) c = declaration_sites d c
+stmt_sites (Stmt-F.Handle of name e) c = handle_sites of name e c
+stmt_sites (Stmt-F.Step s) c = step_sites c false s
+stmt_sites (Stmt-F.Break place) c = only (AtJump c place)
+stmt_sites (Stmt-F.Continue place) c = only (AtJump c place)
+stmt_sites (Stmt-F.Return place e) c = returned_sites c place e
+stmt_sites (Stmt-F.If attributes place test first other) c =
+    attribute_sites c attributes & condition_sites c test & (first (enter c)).sites & else_sites other (branch_after first c)
+stmt_sites (Stmt-F.While attributes place test body) c =
+    attribute_sites c attributes & condition_sites c test & (body (enter_loop c)).sites
+stmt_sites (Stmt-F.For attributes place h body) c =
+    attribute_sites c attributes & start_sites h.start (enter c) & test_sites (in_header h c) h.test
+    & header_sites (in_header h c) (maybe_steps h.steps) & (body (enter_loop (in_header h c))).sites
+
+-- the value that a function gives back
+abbrev pub returned_tree : Context → Gives → Option Expr → Option TypedStmt
+returned_tree c nothing None = Some (t.Return None)
+returned_tree c nothing (Some e) = None
+returned_tree c (a_value of) None = None
+returned_tree c (a_value of) (Some e) = fit_in c of e >>= (λ v. Some (t.Return (Some v)))
+returned_tree c unsure e = None
+
+abbrev pub if_tree : Context → List Attribute → Expr → Walk → Option Walk → Option TypedStmt
+if_tree c attributes test first other = do
+  condition ← fit_in c truth_type test
+  then_tree ← tree_in (enter c) first
+  else_tree ← if_there (tree_in (enter (branch_after first c))) other
+  Some (t.If (attributes_of c attributes) false condition then_tree else_tree)
+
+abbrev pub while_tree : Context → List Attribute → Expr → Walk → Option TypedStmt
+while_tree c attributes test body = do
+  condition ← fit_in c truth_type test
+  inner ← tree_in (enter_loop c) body
+  Some (t.While (attributes_of c attributes) condition inner)
+
+abbrev pub for_tree : Context → List Attribute → Header → Walk → Option TypedStmt
+for_tree c attributes h body = do
+  begin ← if_there (start_tree (enter c)) h.start
+  condition ← if_there (fit_in (in_header h c) truth_type) h.test
+  steps ← header_trees (in_header h c) (maybe_steps h.steps)
+  inner ← tree_in (enter_loop (in_header h c)) body
+  Some (t.For (attributes_of c attributes) begin condition steps inner)
+
+-- The typed form of a statement whose parts have these; none where a part has none or a rule is broken.
+abbrev pub stmt_tree : Stmt-F Walk → Context → Option TypedStmt
+stmt_tree (Stmt-F.Block place body) c = block_trees body (enter c) >>= (λ body. Some (t.Block body))
+stmt_tree (Stmt-F.Empty place) c = Some t.Empty
+stmt_tree (Stmt-F.Declare d) c = declaration_trees d c >>= (λ d. Some (t.Declare d))
+stmt_tree (Stmt-F.Handle of name e) c = handle_request c of e >>= request_stmt c
+stmt_tree (Stmt-F.Step s) c = step_did c s >>= step_stmt c
+stmt_tree (Stmt-F.Break place) c = where_true c.looped t.Break
+stmt_tree (Stmt-F.Continue place) c = where_true c.looped t.Continue
+stmt_tree (Stmt-F.Return place e) c = returned_tree c c.returns e
+stmt_tree (Stmt-F.If attributes place test first other) c = if_tree c attributes test first other
+stmt_tree (Stmt-F.While attributes place test body) c = while_tree c attributes test body
+stmt_tree (Stmt-F.For attributes place h body) c = for_tree c attributes h body
+
+abbrev pub stmt_walked : Stmt-F Walk → Walk
+stmt_walked layer c = record { after = stmt_after layer c; sites = stmt_sites layer c; tree = stmt_tree layer c }
+
+abbrev pub walked : Stmt → Walk
+walked = fold-Stmt Walk stmt_walked

@@ -1,0 +1,141 @@
+use sqlite_items::Items;
+use wg_tree::{
+    ConstValue, Direction, Named, TypeTree, TypedBufferType, TypedExpr, TypedStep,
+};
+use wg_words::{Name, Place, Words};
+
+/// What a name with methods or elements of its own stands for.
+#[derive(Drop)]
+pub enum Object {
+    Buffer {
+        buffer: u32,
+        of: TypedBufferType,
+    },
+    /// An input: whether it holds several records, its record type unless it is empty, and whether its words can be changed.
+    Input {
+        many: bool,
+        record: Option<u32>,
+        standing: Standing,
+    },
+    /// An output, or an element of an output array; an array itself has no element.
+    Output {
+        output: u32,
+        array: bool,
+        record: Option<u32>,
+        element: Option<TypedExpr>,
+    },
+    Handle {
+        handle: u32,
+        record: u32,
+    },
+}
+
+/// A parameter of a plain function.
+#[derive(Clone, Copy, Debug, PartialEq, Eq)]
+pub struct FormalParameter {
+    pub direction: Direction,
+    pub of: TypeTree,
+}
+
+/// What a declared name stands for.
+#[derive(Drop)]
+pub enum Meant {
+    Struct {
+        number: u32,
+    },
+    /// A static constant; a scalar one has a value.
+    Constant {
+        of: TypeTree,
+        words: Words,
+        value: Option<ConstValue>,
+    },
+    Shared {
+        variable: u32,
+        of: TypeTree,
+    },
+    Local {
+        local: u32,
+        of: TypeTree,
+        constant: bool,
+    },
+    Parameter {
+        parameter: u32,
+        of: TypeTree,
+    },
+    Object {
+        object: Object,
+    },
+    /// A function, with the number of functions of the longest chain of calls from it.
+    Function {
+        number: u32,
+        entry: bool,
+        result: Option<TypeTree>,
+        parameters: Items<FormalParameter>,
+        chain: u32,
+    },
+    /// The function in which it stands.
+    Itself,
+    /// Its declaration is broken: it has no type.
+    Broken,
+}
+
+#[derive(Drop)]
+pub struct Declared {
+    pub name: Named,
+    pub meant: Meant,
+}
+
+/// Whether a value can be assigned: it cannot, it can, or it can and stands in groupshared words or in a structured buffer.
+#[derive(Clone, Copy, Debug, PartialEq, Eq)]
+pub enum Standing {
+    Fixed,
+    Own,
+    Memory,
+}
+
+/// What a call does that has no value.
+#[derive(Drop)]
+pub enum Act {
+    Step {
+        step: TypedStep,
+    },
+    Barrier {
+        syncs: bool,
+    },
+    Request {
+        group: bool,
+        output: u32,
+        record: u32,
+        element: Option<TypedExpr>,
+        amount: TypedExpr,
+    },
+    Increment {
+        group: bool,
+        output: u32,
+        element: Option<TypedExpr>,
+        amount: TypedExpr,
+    },
+    Complete {
+        handle: u32,
+    },
+}
+
+/// What an expression is in which no rule is broken. An act has the place of the called name.
+#[derive(Drop)]
+pub enum Value {
+    Typed {
+        of: TypeTree,
+        standing: Standing,
+        tree: TypedExpr,
+    },
+    Object {
+        object: Object,
+    },
+    Act {
+        name: Place,
+        act: Act,
+    },
+    Text {
+        bytes: Name,
+    },
+}

@@ -1,7 +1,7 @@
 -- Loops that read, a turn at a time: by their invariant, what is found and what is still read are the whole.
 use Rattle.std.proofs.Common.{◌≡◌, ℕ, zero, suc, ◌+◌, ◌-◌, ◌<◌, Bool, true, false, List, [], ◌∷◌, ◌++◌, refl, sym, ◌∙◌, ap, subst, append_assoc, arith}
 use Rattle.std.proofs.lemmas.List.{append-nil}
-use Rattle.wg_tree.specs.declared.token.Token.{Token}
+use Rattle.wg_tokens.specs.declared.token.Token.{Token}
 use Rattle.wg_grammar.specs.Reading.{Outcome, Got, Wrong, Deep, Reader, and_then, pure, sees, many_from}
 use Rattle.wg_cursor.specs.Gives.{Halts}
 use Rattle.wg_cursor.specs.Turns.{with_front}

@@ -1,7 +1,7 @@
 -- What a function that reads ensures: the reader's outcome, unless memory fails.
 use Rattle.std.specs.Prelude.{◌≡◌, List, Result, Ok, Err}
 use denote.Bor.{Bor}
-use Rattle.wg_tree.specs.declared.token.Token.{Token}
+use Rattle.wg_tokens.specs.declared.token.Token.{Token}
 use Rattle.wg_grammar.specs.Reading.{Outcome, Got, Wrong, Deep}
 use Rattle.wg_cursor.specs.declared.halt.Halt.{Halt}
 use Rattle.wg_cursor.specs.declared.halt.Halt.TheVariants as halt

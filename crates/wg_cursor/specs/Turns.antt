@@ -1,6 +1,6 @@
 -- A loop that reads a list, an item a turn. Own.
 use Rattle.std.specs.Prelude.{◌≡◌, ℕ, ◌+◌, ◌-◌, ◌<◌, Bool, true, false, List, [], ◌∷◌, ◌++◌}
-use Rattle.wg_tree.specs.declared.token.Token.{Token}
+use Rattle.wg_tokens.specs.declared.token.Token.{Token}
 use Rattle.wg_grammar.specs.Reading.{Outcome, Got, Reader, and_then, pure, sees, many_from}
 use Rattle.wg_cursor.specs.Gives.{Halts}
 use Rattle.wg_cursor.specs.declared.halt.Halt.{Halt}

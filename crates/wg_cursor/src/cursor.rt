@@ -2,7 +2,7 @@
 ghost use Rattle.std.specs.Prelude.{◌≡◌, [], ◌∷◌, length, map, IfOk};
 ghost use Rattle.wg_tree.specs.Symbols as symbols;
 ghost use Rattle.wg_tree.specs.GrammarExpr as grammar;
-ghost use Rattle.wg_tree.specs.declared.token.Token.{Token};
+ghost use Rattle.wg_tokens.specs.declared.token.Token.{Token};
 ghost use Rattle.wg_grammar.specs.Parts as parts;
 ghost use Rattle.wg_grammar.specs.Reading as reading;
 ghost use Rattle.wg_cursor.specs.Gives.{Gives, Halts, Lends};
@@ -11,7 +11,8 @@ use crate::halt::Halt;
 use crate::symbols::{NAME, code};
 use std::alloc::{AllocError, Global};
 use std::marker::Model;
-use wg_tree::{Keyword, Named, Token, TokenKind};
+use wg_tokens::{Keyword, Token, TokenKind};
+use wg_tree::Named;
 use wg_words::{Items, Name, Place, TryCopy};
 
 /// What is left of a list of tokens.
@@ -23,7 +24,7 @@ pub struct Cursor<'a> {
 
 impl<'a> Model for Cursor<'a> {
     ghost use Rattle.std.specs.Prelude.{◌≡◌, List, map};
-    ghost use Rattle.wg_tree.specs.declared.token.Token.{Token};
+    ghost use Rattle.wg_tokens.specs.declared.token.Token.{Token};
     ghost use Rattle.wg_tree.specs.Symbols.{class};
 
     ghost Value = { List Token };

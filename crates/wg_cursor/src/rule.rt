@@ -1,6 +1,6 @@
 //! Lists of what a rule reads.
 ghost use Rattle.std.specs.Prelude.{◌≡◌, List};
-ghost use Rattle.wg_tree.specs.declared.token.Token.{Token};
+ghost use Rattle.wg_tokens.specs.declared.token.Token.{Token};
 ghost use Rattle.wg_grammar.specs.Reading.{Outcome, many};
 ghost use Rattle.wg_grammar.specs.Parts.{of};
 ghost use Rattle.wg_tree.specs.Symbols.{class};

@@ -2,7 +2,7 @@
 ghost use Rattle.std.specs.Prelude.{◌≡◌};
 ghost use Rattle.wg_tree.specs.Symbols as spec;
 
-use wg_tree::Keyword;
+use wg_tokens::Keyword;
 
 /// A name.
 pub const NAME: u32 = 0x100_0000;

@@ -5,7 +5,7 @@ ghost use Rattle.wg_tree.specs.GrammarExpr.{at_class};
 
 use crate::symbols::{END, NAME, NUMBER, TEXT, ZERO, code};
 use std::alloc::{AllocError, Global};
-use wg_tree::{KEYWORDS, Keyword, Token, TokenKind};
+use wg_tokens::{KEYWORDS, Keyword, Token, TokenKind};
 
 fn lookup(words: &[(&[u8], Keyword)], name: &[u8]) -> Option<Keyword>
     ensures { result ≡ spec.lookup (map (λ word. (word.0.now, word.1)) words.now) name.now }

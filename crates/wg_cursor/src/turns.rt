@@ -1,6 +1,6 @@
 //! What loops that read lists find.
 ghost use Rattle.std.specs.Prelude.{List};
-ghost use Rattle.wg_tree.specs.declared.token.Token.{Token};
+ghost use Rattle.wg_tokens.specs.declared.token.Token.{Token};
 ghost use Rattle.wg_grammar.specs.Reading.{Outcome, Reader};
 ghost use Rattle.wg_cursor.specs.Turns.{Ends, GoesOn, Halted};
 

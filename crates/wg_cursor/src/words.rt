@@ -3,7 +3,7 @@ use crate::symbols::{
     AMPERSAND, ASSIGN, BAR, CARET, MINUS, PERCENT, PLUS, SHIFT_LEFT, SHIFT_RIGHT, SLASH, STAR,
     WORDS,
 };
-use wg_tree::Keyword;
+use wg_tokens::Keyword;
 
 /// `struct`.
 pub const STRUCT: u32 = WORDS + Keyword::Struct as u32;

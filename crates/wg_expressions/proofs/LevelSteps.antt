@@ -1,7 +1,7 @@
 -- Levels of operators, a level at a time.
 use Rattle.std.proofs.Common.{◌≡◌, ◌∙◌, ℕ, zero, suc, ◌-◌, ◌<◌, Bool, List, refl, sym, ap, subst, arith}
 use Rattle.std.proofs.lemmas.List.{append-nil}
-use Rattle.wg_tree.specs.declared.token.Token.{Token}
+use Rattle.wg_tokens.specs.declared.token.Token.{Token}
 use Rattle.wg_tree.specs.Symbols.{class}
 use Rattle.wg_tree.specs.GrammarExpr.{links, classes, operators}
 use Rattle.wg_tree.specs.ReadsExpr.{read_level}

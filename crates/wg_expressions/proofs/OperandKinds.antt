@@ -1,6 +1,6 @@
 -- Which operand is read, by the next tokens.
 use Rattle.std.proofs.Common.{◌≡◌, ℕ, true, false, List, refl}
-use Rattle.wg_tree.specs.declared.token.Token.{Token}
+use Rattle.wg_tokens.specs.declared.token.Token.{Token}
 use Rattle.wg_tree.specs.Symbols.{class}
 use Rattle.wg_tree.specs.GrammarExpr as grammar
 use Rattle.wg_tree.specs.ReadsExpr.{read_unary, cast_tests, zeros_tests}

@@ -1,6 +1,6 @@
 -- Where there is room, what is nested is read with less of it.
 use Rattle.std.proofs.Common.{◌≡◌, ℕ, zero, suc, ◌-◌, ◌<◌, List, refl, arith}
-use Rattle.wg_tree.specs.declared.token.Token.{Token}
+use Rattle.wg_tokens.specs.declared.token.Token.{Token}
 use Rattle.wg_tree.specs.GrammarExpr as grammar
 use Rattle.wg_tree.specs.ReadsExpr.{read_expr, read_unary}
 use Rattle.wg_expressions.specs.declared.kind.Kind.{Kind}

@@ -1,6 +1,6 @@
 -- The levels of two-sided operators, as they are read.
 use Rattle.std.specs.Prelude.{ℕ, List}
-use Rattle.wg_tree.specs.declared.token.Token.{Token}
+use Rattle.wg_tokens.specs.declared.token.Token.{Token}
 use Rattle.wg_tree.specs.declared.expr.Expr.{Expr}
 use Rattle.wg_tree.specs.declared.expr.Link.{Link}
 use Rattle.wg_grammar.specs.Parts.{Part, sub, ◌<*>◌, ◌<$>◌, ◌<*◌, ◌*>◌, first, reads}

@@ -11,7 +11,8 @@ use sqlite_items::Items;
 use std::alloc::Global;
 use wg_cursor::symbols::{COMMA, LEFT_PAREN, NAME, RIGHT_PAREN};
 use wg_cursor::{Cursor, Halt, read_by_turns};
-use wg_tree::{Expr, Named, Token};
+use wg_tokens::Token;
+use wg_tree::{Expr, Named};
 use wg_words::Place;
 
 #[derive(Clone, Copy)]

@@ -8,7 +8,8 @@ use wg_cursor::symbols::{
     STAR, TILDE, UINT, UINT2, UINT3, UINT4,
 };
 use wg_cursor::{at_class, class};
-use wg_tree::{BinaryOperator, PrefixOperator, Scalar, Token, ValueType};
+use wg_tokens::Token;
+use wg_tree::{BinaryOperator, PrefixOperator, Scalar, ValueType};
 
 const fn vector(of: Scalar, size: u32) -> ValueType
     ensures { result ≡ ValueType.Vector of size }

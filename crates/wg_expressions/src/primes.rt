@@ -11,7 +11,8 @@ use sqlite_items::Boxed;
 use std::alloc::{AllocError, Global};
 use wg_cursor::symbols::{FALSE, LEFT_PAREN, NAME, NUMBER, RIGHT_PAREN, TEXT, TRUE, ZERO};
 use wg_cursor::{Cursor, Halt};
-use wg_tree::{Expr, Token, TokenKind};
+use wg_tokens::{Token, TokenKind};
+use wg_tree::Expr;
 use wg_words::{Items, Name, TryCopy};
 
 /// The bytes of a string.

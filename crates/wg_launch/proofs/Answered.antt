@@ -2,7 +2,7 @@
 use Rattle.std.proofs.Common.{Option, ap}
 use Rattle.std.specs.Prelude.{Result, Ok, Err}
 use Rattle.std.specs.Option.{option_map}
-use Rattle.wg_tree.specs.declared.state.Launched.{Launched}
+use Rattle.wg_semantics.specs.declared.state.Launched.{Launched}
 use Rattle.wg_meaning.specs.declared.halt.Halt.{Halt}
 use Rattle.wg_meaning.specs.declared.halt.Halt.TheVariants as halt
 use Rattle.wg_launch.specs.Launches.{Launches}

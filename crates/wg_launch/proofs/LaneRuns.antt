@@ -2,16 +2,16 @@
 use Rattle.std.proofs.Common.{◌≡◌, ℕ, suc, ◌+◌, List, [], ◌∷◌, ◌++◌, length, take, drop, get_or, ◌-◌, ◌≤◌, ◌<◌, true, false, Err, append-nil, refl, sym, ap, ◌∙◌, arith}
 use Rattle.std.proofs.Math.Seq.{take-suc}
 use Rattle.std.proofs.lemmas.List.{get_or-drop, length-drop, append_assoc, drop_more}
-use Rattle.wg_tree.specs.Turns.{Outcome, Spent, Done, Step, and_then, pure}
-use Rattle.wg_tree.specs.declared.state.Frame.{Frame}
-use Rattle.wg_tree.specs.declared.state.Lane.{Lane}
-use Rattle.wg_tree.specs.declared.state.Sender.{Sender}
-use Rattle.wg_tree.specs.declared.state.World.{World}
-use Rattle.wg_tree.specs.declared.typed_stmt.TypedStmt.{TypedStmt}
+use Rattle.wg_state.specs.Turns.{Outcome, Spent, Done, Step, and_then, pure}
+use Rattle.wg_semantics.specs.declared.state.Frame.{Frame}
+use Rattle.wg_semantics.specs.declared.state.Lane.{Lane}
+use Rattle.wg_state.specs.declared.world.Sender.{Sender}
+use Rattle.wg_state.specs.declared.world.World.{World}
+use Rattle.wg_typed.specs.declared.typed_stmt.TypedStmt.{TypedStmt}
 use Rattle.wg_meaning.specs.declared.halt.Halt.{Halt}
 use Rattle.wg_meaning.specs.declared.halt.Halt.TheVariants as halt
 use Rattle.wg_meaning.specs.Says.{Stops}
-use Rattle.wg_tree.specs.LaunchMeaning.{Bodies, Phase, Run, is_collective, lane_runs, lanes_run, phases_run, phases_after, after_run, launched, first_lanes}
+use Rattle.wg_semantics.specs.LaunchMeaning.{Bodies, Phase, Run, is_collective, lane_runs, lanes_run, phases_run, phases_after, after_run, launched, first_lanes}
 use Rattle.wg_launch.specs.Launches.{Launches}
 
 -- ---- lanes

@@ -9,13 +9,13 @@ use Rattle.wg_machine.specs.declared.launch.Launch.{Launch}
 use Rattle.wg_machine.specs.declared.launch.Record.{Record}
 use Rattle.wg_machine.specs.declared.launch.Sent.{Sent}
 use Rattle.wg_machine.specs.LaunchMeaning.{Meaning, Outcome}
-use Rattle.wg_tree.specs.declared.state.Sender.{Sender}
-use Rattle.wg_tree.specs.declared.state.NodeUnit.{NodeUnit}
-use Rattle.wg_tree.specs.declared.state.Group.{Group}
-use Rattle.wg_tree.specs.declared.state.SentRecord.{SentRecord}
-use Rattle.wg_tree.specs.declared.state.Launched.{Launched}
-use Rattle.wg_tree.specs.declared.typed.Typed.{Typed}
-use Rattle.wg_tree.specs.LaunchMeaning.{place_of, made}
+use Rattle.wg_state.specs.declared.world.Sender.{Sender}
+use Rattle.wg_semantics.specs.declared.state.NodeUnit.{NodeUnit}
+use Rattle.wg_semantics.specs.declared.state.Group.{Group}
+use Rattle.wg_semantics.specs.declared.state.SentRecord.{SentRecord}
+use Rattle.wg_semantics.specs.declared.state.Launched.{Launched}
+use Rattle.wg_typed.specs.declared.typed.Typed.{Typed}
+use Rattle.wg_semantics.specs.LaunchMeaning.{place_of, made}
 use Rattle.wg_meaning.specs.declared.halt.Halt.{Halt}
 use Rattle.wg_meaning.specs.declared.halt.Halt.TheVariants as halt
 use Rattle.wg_launch.specs.declared.bodies.Body.{Body}

@@ -1,6 +1,6 @@
 -- What the program's answer says of a launch.
 use Rattle.std.specs.Prelude.{◌≡◌, ⊤, Option, Some, None, Result, Ok, Err}
-use Rattle.wg_tree.specs.declared.state.Launched.{Launched}
+use Rattle.wg_semantics.specs.declared.state.Launched.{Launched}
 use Rattle.wg_meaning.specs.declared.halt.Halt.{Halt}
 use Rattle.wg_meaning.specs.declared.halt.Halt.TheVariants as halt
 

@@ -1,10 +1,10 @@
 ghost use Rattle.std.specs.Prelude.{◌≡◌, IfOk, IfSome, [], Some};
-ghost use Rattle.wg_tree.specs.LaunchMeaning.{first_frame, first_lanes, first_world, lanes_in, launch_of, made};
+ghost use Rattle.wg_semantics.specs.LaunchMeaning.{first_frame, first_lanes, first_world, lanes_in, launch_of, made};
 ghost use Rattle.std.specs.Prelude.{List};
-ghost use Rattle.wg_tree.specs.Turns.{Done};
-ghost use Rattle.wg_tree.specs.declared.state.Group.{Group as Given};
-ghost use Rattle.wg_tree.specs.declared.state.Lane.{Lane as Lanes};
-ghost use Rattle.wg_tree.specs.LaunchMeaning.{launched as after};
+ghost use Rattle.wg_state.specs.Turns.{Done};
+ghost use Rattle.wg_semantics.specs.declared.state.Group.{Group as Given};
+ghost use Rattle.wg_semantics.specs.declared.state.Lane.{Lane as Lanes};
+ghost use Rattle.wg_semantics.specs.LaunchMeaning.{launched as after};
 ghost use Rattle.wg_launch.specs.Launches.{Launches};
 
 use crate::lanes::{Entry, no_frame, run_phases};
@@ -12,7 +12,9 @@ use crate::sent::all_sent;
 use crate::start::{LaneSpot, frame, shared};
 use std::alloc::{AllocError, Global};
 use wg_meaning::{Halt, Run};
-use wg_tree::{Group, Lane, Launched, NodeUnit, Sender, State, Typed, TypedFunction, World};
+use wg_semantics::{Group, Lane, Launched, NodeUnit, State};
+use wg_state::{Sender, World};
+use wg_typed::{Typed, TypedFunction};
 use wg_values::Structs;
 use wg_words::{Items, Word, WordLists, Words};
 

@@ -1,13 +1,14 @@
 ghost use Rattle.std.specs.Prelude.{◌≡◌, []};
-ghost use Rattle.wg_tree.specs.Turns.{and_then};
-ghost use Rattle.wg_tree.specs.LaunchMeaning.{setting_of as entry_setting, entry_bodies, has_returned, is_collective, lane_runs, lanes_run, phases_run, phases_of, after_run};
+ghost use Rattle.wg_state.specs.Turns.{and_then};
+ghost use Rattle.wg_semantics.specs.LaunchMeaning.{setting_of as entry_setting, entry_bodies, has_returned, is_collective, lane_runs, lanes_run, phases_run, phases_of, after_run};
 ghost use Rattle.wg_values.specs.Pieces.{setting_of};
 ghost use Rattle.wg_meaning.specs.Says.{Says};
 
 use std::alloc::Global;
 use std::mem;
 use wg_meaning::{Halt, Run, body};
-use wg_tree::{Flow, Frame, Lane, NodeUnit, Typed, TypedFunction, TypedStmt};
+use wg_semantics::{Flow, Frame, Lane, NodeUnit};
+use wg_typed::{Typed, TypedFunction, TypedStmt};
 use wg_values::{Setting, Structs};
 use wg_words::{Items, WordLists};
 

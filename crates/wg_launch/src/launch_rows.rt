@@ -4,10 +4,10 @@ use sqlite_items::Items;
 use std::alloc::Global;
 use std::test::Fail;
 use wg_machine::{Kind, Launch, NodeNames, Output, Outputs, Record, Records, Shape, Unit, Units};
-use wg_tree::{
-    Group, NodeUnit, ObjectWord, Sender, TypeTree, Typed, TypedBuffer, TypedBufferType, TypedField,
-    TypedFunction, TypedParameter, TypedParameterType, TypedShared, TypedStruct,
-};
+use wg_semantics::{Group, NodeUnit};
+use wg_state::Sender;
+use wg_tree::ObjectWord;
+use wg_typed::{TypeTree, Typed, TypedBuffer, TypedBufferType, TypedField, TypedFunction, TypedParameter, TypedParameterType, TypedShared, TypedStruct};
 use wg_words::{Names, Place, Word, WordLists, Words};
 
 const HERE: Place = Place { line: 1, column: 1 };

@@ -2,12 +2,8 @@
 use sqlite_items::{Boxed, Items};
 use std::alloc::{AllocError, Global};
 use std::mem;
-use wg_tree::{
-    Access, BinaryOperator, Destination, Directed, Direction, ElementType, Interlocked,
-    InterlockedForm, Named, Scalar, StepOperator, TypeTree, TypedDeclarator, TypedExpr,
-    TypedFunction, TypedHandle, TypedKind, TypedLink, TypedParameter, TypedParameterType,
-    TypedStep, TypedStmt,
-};
+use wg_tree::{BinaryOperator, Directed, Direction, Named, Scalar, StepOperator};
+use wg_typed::{Access, Destination, ElementType, Interlocked, InterlockedForm, TypeTree, TypedDeclarator, TypedExpr, TypedFunction, TypedHandle, TypedKind, TypedLink, TypedParameter, TypedParameterType, TypedStep, TypedStmt};
 use wg_words::{Name, Place, Word, Words};
 
 pub type Made<T> = Result<T, AllocError>;

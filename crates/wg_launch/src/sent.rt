@@ -1,8 +1,9 @@
 ghost use Rattle.std.specs.Prelude.{◌≡◌, ◌++◌, IfOk, OnOk};
-ghost use Rattle.wg_tree.specs.LaunchMeaning.{is_of, sent_by, sent_to, sent_at, sent_from, sent_through};
+ghost use Rattle.wg_semantics.specs.LaunchMeaning.{is_of, sent_by, sent_to, sent_at, sent_from, sent_through};
 
 use std::alloc::{AllocError, Global};
-use wg_tree::{Grant, Sender, SentRecord};
+use wg_semantics::SentRecord;
+use wg_state::{Grant, Sender};
 use wg_words::{Items, Words};
 
 fn belongs(output: u64, element: u64, g: &Grant) -> bool

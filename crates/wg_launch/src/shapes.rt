@@ -8,7 +8,9 @@ use crate::start::place;
 use std::alloc::{AllocError, Global};
 use wg_machine::{Launch, Output, Record, Shape, Unit};
 use wg_meaning::Halt;
-use wg_tree::{Group, Launched, NodeUnit, Sender, Typed};
+use wg_semantics::{Group, Launched, NodeUnit};
+use wg_state::Sender;
+use wg_typed::Typed;
 use wg_words::{Items, WordLists, Words};
 
 fn senders(alloc: Global, outputs: &[Output]) -> Result<Items<Sender>, AllocError>

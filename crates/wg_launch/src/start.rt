@@ -1,8 +1,10 @@
 ghost use Rattle.std.specs.Prelude.{◌≡◌, ◌*◌, ◌/◌, ◌%◌, IfOk, map, take};
-ghost use Rattle.wg_tree.specs.LaunchMeaning.{place_of, dispatch_of, system_named, system_words, entry_value, first_frame, first_shared};
+ghost use Rattle.wg_semantics.specs.LaunchMeaning.{place_of, dispatch_of, system_named, system_words, entry_value, first_frame, first_shared};
 
 use std::alloc::{AllocError, Global};
-use wg_tree::{Frame, Named, TypedFunction, TypedParameter, TypedShared};
+use wg_semantics::Frame;
+use wg_tree::Named;
+use wg_typed::{TypedFunction, TypedParameter, TypedShared};
 use wg_values::{Structs, fresh, parameter_size, zero_value};
 use wg_words::{Word, WordLists, Words, add, mul};
 

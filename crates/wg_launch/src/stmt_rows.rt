@@ -3,7 +3,9 @@ use sqlite_items::Items;
 use std::alloc::Global;
 use std::test::Fail;
 use wg_meaning::{Halt, Run, body};
-use wg_tree::{Direction, Flow, Frame, State, World};
+use wg_semantics::{Flow, Frame, State};
+use wg_state::World;
+use wg_tree::Direction;
 use wg_values::{Setting, Structs};
 use wg_words::{Word, WordLists, Words};
 

@@ -6,12 +6,12 @@ use Rattle.std.proofs.Math.Nat.{suc-mul}
 use Rattle.std.proofs.lemmas.Bool.{cases_lt}
 use Rattle.std.proofs.lemmas.List.{drop_more, drop_all}
 use Rattle.std.proofs.lemmas.Option.{slice_get-map}
-use Rattle.wg_tree.specs.declared.types.ElementType.TheVariants as element
-use Rattle.wg_tree.specs.declared.types.TypeTree.{TypeTree}
-use Rattle.wg_tree.specs.declared.types.TypeTree.TheVariants as type
-use Rattle.wg_tree.specs.declared.typed.TypedField.{TypedField}
-use Rattle.wg_tree.specs.declared.typed.TypedStruct.{TypedStruct}
-use Rattle.wg_tree.specs.Layout.{type_words, struct_words, end_after, types_of, field_types, sizes_after}
+use Rattle.wg_typed.specs.declared.types.ElementType.TheVariants as element
+use Rattle.wg_typed.specs.declared.types.TypeTree.{TypeTree}
+use Rattle.wg_typed.specs.declared.types.TypeTree.TheVariants as type
+use Rattle.wg_typed.specs.declared.typed.TypedField.{TypedField}
+use Rattle.wg_typed.specs.declared.typed.TypedStruct.{TypedStruct}
+use Rattle.wg_typed.specs.Layout.{type_words, struct_words, end_after, types_of, field_types, sizes_after}
 use Rattle.wg_layout.specs.Sizes.{capped, table_of}
 
 -- ---- sums

@@ -4,14 +4,14 @@ use Rattle.std.specs.Prelude.{slice_get, unwrap_or}
 use Rattle.std.proofs.lemmas.List.{drop_more, append_assoc}
 use Rattle.std.proofs.lemmas.Option.{get_or_from_slice_get, slice_get_within}
 use Rattle.wg_words.specs.Each.{Each}
-use Rattle.wg_tree.specs.Earlier.{each_after}
-use Rattle.wg_tree.specs.declared.types.ElementType.TheVariants as element
-use Rattle.wg_tree.specs.declared.types.TypeTree.{TypeTree}
-use Rattle.wg_tree.specs.declared.types.TypeTree.TheVariants as type
-use Rattle.wg_tree.specs.declared.typed.TypedField.{TypedField}
-use Rattle.wg_tree.specs.declared.typed.TypedStruct.{TypedStruct}
-use Rattle.wg_tree.specs.Layout.{NamesBelow, AreInOrder, type_words, struct_words, end_after, ranges_after, types_of, field_types, sizes_after, sizes_of, struct_size, words_of}
-use Rattle.wg_tree.proofs.Earlier.{first_numbers, one_of_all}
+use Rattle.wg_typed.specs.Earlier.{each_after}
+use Rattle.wg_typed.specs.declared.types.ElementType.TheVariants as element
+use Rattle.wg_typed.specs.declared.types.TypeTree.{TypeTree}
+use Rattle.wg_typed.specs.declared.types.TypeTree.TheVariants as type
+use Rattle.wg_typed.specs.declared.typed.TypedField.{TypedField}
+use Rattle.wg_typed.specs.declared.typed.TypedStruct.{TypedStruct}
+use Rattle.wg_typed.specs.Layout.{NamesBelow, AreInOrder, type_words, struct_words, end_after, ranges_after, types_of, field_types, sizes_after, sizes_of, struct_size, words_of}
+use Rattle.wg_typed.proofs.Earlier.{first_numbers, one_of_all}
 use Rattle.wg_layout.specs.declared.parts.FieldRange.{FieldRange}
 use Rattle.wg_layout.specs.Layouts.{range_of}
 use Rattle.wg_layout.specs.Sizes.{capped}

@@ -1,7 +1,7 @@
 -- The sizes of a text's structs as a table holds them: one above the greatest that a type may have stands for any greater.
 use Rattle.std.specs.Prelude.{ℕ, List, map, min}
-use Rattle.wg_tree.specs.Layout.{sizes_of}
-use Rattle.wg_tree.specs.declared.typed.TypedStruct.{TypedStruct}
+use Rattle.wg_typed.specs.Layout.{sizes_of}
+use Rattle.wg_typed.specs.declared.typed.TypedStruct.{TypedStruct}
 
 -- a number of words, or 8,193 for more than 8,192
 abbrev pub capped : ℕ → ℕ

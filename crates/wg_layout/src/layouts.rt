@@ -1,5 +1,5 @@
 ghost use Rattle.std.specs.Prelude.{◌≡◌, ◌≤◌, map, IfOk};
-ghost use Rattle.wg_tree.specs.Layout.{words_of, AreInOrder, field_ranges, sizes_of, types_of, end_after, ranges_after};
+ghost use Rattle.wg_typed.specs.Layout.{words_of, AreInOrder, field_ranges, sizes_of, types_of, end_after, ranges_after};
 ghost use Rattle.wg_layout.specs.Layouts.{IsLayout, range_of};
 ghost use Rattle.wg_layout.specs.Sizes.{table_of};
 
@@ -7,7 +7,7 @@ use crate::parts::{FieldRange, FieldRanges, Layout};
 use crate::sizes::Sizes;
 use sqlite_items::Items as List;
 use std::alloc::{AllocError, Global};
-use wg_tree::{TypeTree, TypedField, TypedStruct};
+use wg_typed::{TypeTree, TypedField, TypedStruct};
 
 /// The layout of a type of a text with these structs, whose sizes are in the table. Its time is that of the struct's fields.
 pub fn layout(

@@ -1,7 +1,7 @@
 use sqlite_items::Items;
 use std::alloc::{AllocError, Global};
 use std::marker::Model;
-use wg_tree::{ElementType, TypeTree, TypedField, TypedStruct};
+use wg_typed::{ElementType, TypeTree, TypedField, TypedStruct};
 use wg_words::Words;
 
 /// One more than the greatest number of words that a type may have.
@@ -23,7 +23,7 @@ impl Model for Sizes {
 
 impl Sizes {
     ghost use Rattle.std.specs.Prelude.{◌≡◌, [], ◌∷◌, ◌++◌, IfOk, OnOk, OnErr};
-    ghost use Rattle.wg_tree.specs.Layout.{type_words, element_words, struct_words, end_after, types_of, field_types};
+    ghost use Rattle.wg_typed.specs.Layout.{type_words, element_words, struct_words, end_after, types_of, field_types};
     ghost use Rattle.wg_layout.specs.Sizes.{capped, table_of};
 
     /// The sizes of these structs.

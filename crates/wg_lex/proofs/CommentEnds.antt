@@ -1,7 +1,7 @@
 -- Where a comment ends.
 use Rattle.std.proofs.Common.{◌≡◌, ℕ, zero, suc, ◌+◌, ◌<◌, ◌≤◌, ◌==◌, Bool, true, false, ◌&&◌, if◌then◌else◌, List, [], ◌∷◌, length, take, Option, Some, None, refl, ◌∙◌, ap, arith, add-one}
 use Rattle.std.specs.Option.{option_map}
-use Rattle.wg_tree.specs.Spelling.{closes, is_empty}
+use Rattle.wg_tokens.specs.Spelling.{closes, is_empty}
 use Rattle.wg_lex.specs.Scanning.{comment_end}
 
 -- the first `*/` is the end, where a `*` may stand before these bytes

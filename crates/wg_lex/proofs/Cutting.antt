@@ -1,10 +1,10 @@
 -- A text is cut in one way, from its first piece on.
 use Rattle.std.proofs.Common.{◌≡◌, ℕ, zero, suc, ◌+◌, ◌<◌, ◌≤◌, List, [], ◌∷◌, ◌++◌, length, take, drop, Some, refl, sym, ◌∙◌, ap, subst, arith, ◌⊎◌, inl, inr}
 use Rattle.std.proofs.lemmas.List.{append-nil, length-drop}
-use Rattle.wg_tree.specs.declared.token.Token.{Token}
-use Rattle.wg_tree.specs.Spelling.{Matter, blank, comment, token, matter_of}
-use Rattle.wg_tree.specs.Cut.{Piece, IsLongest, BeginsWith, size_of, tokens_of, IsCutAt, Cuts, place_after}
-use Rattle.wg_tree.specs.LexicalRules.{LexicalRule, not_ascii, preprocessor, wide_literal, open_comment, stray_byte, IsBroken, Breaks, BreaksNone, BreaksFirst, rule_number}
+use Rattle.wg_tokens.specs.declared.token.Token.{Token}
+use Rattle.wg_tokens.specs.Spelling.{Matter, blank, comment, token, matter_of}
+use Rattle.wg_tokens.specs.Cut.{Piece, IsLongest, BeginsWith, size_of, tokens_of, IsCutAt, Cuts, place_after}
+use Rattle.wg_tokens.specs.LexicalRules.{LexicalRule, not_ascii, preprocessor, wide_literal, open_comment, stray_byte, IsBroken, Breaks, BreaksNone, BreaksFirst, rule_number}
 use Rattle.wg_lex.proofs.FrontRules.{one_longest}
 
 -- ---- pieces

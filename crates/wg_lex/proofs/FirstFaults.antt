@@ -2,11 +2,11 @@
 use Rattle.std.proofs.Common.{◌≡◌, ℕ, zero, suc, ◌<◌, ◌≤◌, ◌==◌, Bool, true, false, ◌&&◌, if◌then◌else◌, nat_lt, List, [], ◌∷◌, take, get_or, slice_get, Some, None, refl, sym, ◌∙◌, ap, arith, codes}
 use Rattle.std.specs.List.{list_all}
 use Rattle.std.proofs.lemmas.Bool.Decides.{nat_tests}
-use Rattle.wg_tree.specs.declared.token.TokenKind.TheVariants.{Number}
-use Rattle.wg_tree.specs.Characters.{is_among, is_blank, is_letter, is_digit}
-use Rattle.wg_tree.specs.Spelling.{Matter, comment, token, matter_of, is_punctuation}
-use Rattle.wg_tree.specs.Cut.{Piece, IsLongest}
-use Rattle.wg_tree.specs.LexicalRules.{LexicalRule, not_ascii, preprocessor, wide_literal, open_comment, stray_byte, rule_number, IsBroken, IsNotAscii, IsPreprocessor, IsWideLiteral, IsOpenComment, IsStray}
+use Rattle.wg_tokens.specs.declared.token.TokenKind.TheVariants.{Number}
+use Rattle.wg_tokens.specs.Characters.{is_among, is_blank, is_letter, is_digit}
+use Rattle.wg_tokens.specs.Spelling.{Matter, comment, token, matter_of, is_punctuation}
+use Rattle.wg_tokens.specs.Cut.{Piece, IsLongest}
+use Rattle.wg_tokens.specs.LexicalRules.{LexicalRule, not_ascii, preprocessor, wide_literal, open_comment, stray_byte, rule_number, IsBroken, IsNotAscii, IsPreprocessor, IsWideLiteral, IsOpenComment, IsStray}
 use Rattle.wg_lex.proofs.FrontRules.{not_wide, first_open}
 use Rattle.wg_lex.proofs.Cutting.{size_positive}
 

@@ -2,10 +2,10 @@
 use Rattle.std.proofs.Common.{◌≡◌, ◌≢◌, ℕ, zero, suc, ◌+◌, ◌^◌, ◌<◌, ◌≤◌, ◌==◌, Bool, true, false, ◌&&◌, List, [], ◌∷◌, length, take, drop, get_or, Option, Some, None, refl, sym, ◌∙◌, ap, subst, arith, codes, inl, inr, not}
 use Rattle.std.specs.List.{prefix_len}
 use Rattle.std.proofs.lemmas.Bool.Decides.{nat_tests}
-use Rattle.wg_tree.specs.Characters.{is_among, is_blank, is_letter, is_digit, is_word, is_text_byte, is_line_feed}
-use Rattle.wg_tree.specs.declared.token.TokenKind.TheVariants.{Plain, Number, Text, Mark}
-use Rattle.wg_tree.specs.Spelling.{comment, token, matter_of}
-use Rattle.wg_tree.specs.Cut.{IsLongest}
+use Rattle.wg_tokens.specs.Characters.{is_among, is_blank, is_letter, is_digit, is_word, is_text_byte, is_line_feed}
+use Rattle.wg_tokens.specs.declared.token.TokenKind.TheVariants.{Plain, Number, Text, Mark}
+use Rattle.wg_tokens.specs.Spelling.{comment, token, matter_of}
+use Rattle.wg_tokens.specs.Cut.{IsLongest}
 use Rattle.wg_lex.specs.declared.numbers.Numeral.{Numeral}
 use Rattle.wg_lex.specs.declared.front.Front.TheVariants.{Skipped, Token, WideLiteral, OpenComment, Stray}
 use Rattle.wg_lex.specs.Numerals.{IsNumeral}

@@ -1,11 +1,11 @@
 -- Which rules the front of a text breaks.
 use Rattle.std.proofs.Common.{◌≡◌, ◌≢◌, ℕ, zero, suc, ◌^◌, ◌<◌, ◌≤◌, ◌==◌, Bool, true, false, ◌&&◌, List, [], ◌∷◌, take, get_or, slice_get, Some, IsTrue, refl, sym, ◌∙◌, ap, arith, codes, ◌⊎◌, inl, inr}
 use Rattle.std.proofs.lemmas.Bool.Decides.{nat_tests}
-use Rattle.wg_tree.specs.Characters.{is_among}
-use Rattle.wg_tree.specs.declared.token.TokenKind.TheVariants.{Number}
-use Rattle.wg_tree.specs.Spelling.{Matter, token, matter_of}
-use Rattle.wg_tree.specs.Cut.{Piece, IsLongest}
-use Rattle.wg_tree.specs.LexicalRules.{IsWideLiteral, IsOpenComment}
+use Rattle.wg_tokens.specs.Characters.{is_among}
+use Rattle.wg_tokens.specs.declared.token.TokenKind.TheVariants.{Number}
+use Rattle.wg_tokens.specs.Spelling.{Matter, token, matter_of}
+use Rattle.wg_tokens.specs.Cut.{Piece, IsLongest}
+use Rattle.wg_tokens.specs.LexicalRules.{IsWideLiteral, IsOpenComment}
 
 order : (n m : ℕ) → (n < m) ⊎ ((m < n) ⊎ (n ≡ m))
 order n m = grind arith

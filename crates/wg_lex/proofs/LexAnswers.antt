@@ -3,11 +3,11 @@ use Rattle.std.proofs.Common.{◌≡◌, ℕ, zero, suc, ◌+◌, ◌^◌, ◌<�
 use Rattle.std.proofs.lemmas.Bool.Decides.{nat_tests}
 use Rattle.std.proofs.lemmas.List.{append-nil, length-drop, length-take}
 use Rattle.wg_words.specs.declared.place.Place.{Place}
-use Rattle.wg_tree.specs.declared.token.Token.{Token}
-use Rattle.wg_tree.specs.declared.token.TokenKind.{TokenKind}
-use Rattle.wg_tree.specs.Spelling.{blank, comment, token}
-use Rattle.wg_tree.specs.Cut.{place_after}
-use Rattle.wg_tree.specs.LexicalRules.{not_ascii, preprocessor, wide_literal, open_comment, stray_byte, IsNotAscii, IsPreprocessor, IsStray, most_bytes}
+use Rattle.wg_tokens.specs.declared.token.Token.{Token}
+use Rattle.wg_tokens.specs.declared.token.TokenKind.{TokenKind}
+use Rattle.wg_tokens.specs.Spelling.{blank, comment, token}
+use Rattle.wg_tokens.specs.Cut.{place_after}
+use Rattle.wg_tokens.specs.LexicalRules.{not_ascii, preprocessor, wide_literal, open_comment, stray_byte, IsNotAscii, IsPreprocessor, IsStray, most_bytes}
 use Rattle.wg_lex.specs.declared.fault.LexFault.{LexFault}
 use Rattle.wg_lex.specs.declared.fault.LexFault.TheVariants as is
 use Rattle.wg_lex.specs.declared.position.Position.{Position}

@@ -4,10 +4,10 @@ use Rattle.std.specs.List.{list_all, prefix_len}
 use Rattle.std.proofs.lemmas.Bool.Decides.{nat_tests}
 use Rattle.std.proofs.lemmas.List.{length-drop}
 use Rattle.std.proofs.Math.Seq.{drop-cons}
-use Rattle.wg_tree.specs.Characters.{is_blank, is_letter, is_word, is_line_feed, is_text_byte}
-use Rattle.wg_tree.specs.declared.token.TokenKind.TheVariants.{Plain, Text, Mark}
-use Rattle.wg_tree.specs.Spelling.{blank, comment, token, is_quote, closes, matter_of, mark_of, text_of, slash_of}
-use Rattle.wg_tree.specs.Cut.{IsLongest}
+use Rattle.wg_tokens.specs.Characters.{is_blank, is_letter, is_word, is_line_feed, is_text_byte}
+use Rattle.wg_tokens.specs.declared.token.TokenKind.TheVariants.{Plain, Text, Mark}
+use Rattle.wg_tokens.specs.Spelling.{blank, comment, token, is_quote, closes, matter_of, mark_of, text_of, slash_of}
+use Rattle.wg_tokens.specs.Cut.{IsLongest}
 use Rattle.wg_lex.specs.Scanning.{IsLongestMark, IsNoMark, BeginsNoOther, comment_end}
 use Rattle.wg_lex.proofs.Runs.{run_within, all_run, all_past, run_of_front, run_of_run, take_of_take, drop_of_take}
 use Rattle.wg_lex.proofs.CommentEnds.{Ends, comment_ends}

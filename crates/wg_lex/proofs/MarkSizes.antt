@@ -1,7 +1,7 @@
 -- The longest punctuation, by the first three bytes.
 use Rattle.std.proofs.Common.{◌≡◌, ℕ, zero, suc, ◌+◌, ◌*◌, ◌<◌, ◌≤◌, ◌==◌, Bool, true, false, ◌&&◌, List, [], ◌∷◌, length, take, get_or, refl, arith}
 use Rattle.std.proofs.lemmas.Bool.Decides.{nat_tests}
-use Rattle.wg_tree.specs.Spelling.{is_mark, is_double_mark, is_triple_mark, is_punctuation}
+use Rattle.wg_tokens.specs.Spelling.{is_mark, is_double_mark, is_triple_mark, is_punctuation}
 use Rattle.wg_lex.specs.Scanning.{IsLongestMark, IsNoMark}
 
 and_no : (v : Bool) → (v && false) ≡ false

@@ -4,10 +4,10 @@ use Rattle.std.specs.List.{prefix_len}
 use Rattle.std.proofs.lemmas.Bool.Decides.{nat_tests}
 use Rattle.std.proofs.lemmas.List.{length-drop}
 use Rattle.std.proofs.Math.Seq.{drop-cons}
-use Rattle.wg_tree.specs.Characters.{is_among, is_blank, is_letter, is_digit, is_hex_digit, digit_value}
-use Rattle.wg_tree.specs.declared.token.TokenKind.TheVariants.{Number}
-use Rattle.wg_tree.specs.Spelling.{Matter, token, worth, with_suffix, number_in, goes_on_hexadecimal, matter_of}
-use Rattle.wg_tree.specs.Cut.{IsLongest}
+use Rattle.wg_tokens.specs.Characters.{is_among, is_blank, is_letter, is_digit, is_hex_digit, digit_value}
+use Rattle.wg_tokens.specs.declared.token.TokenKind.TheVariants.{Number}
+use Rattle.wg_tokens.specs.Spelling.{Matter, token, worth, with_suffix, number_in, goes_on_hexadecimal, matter_of}
+use Rattle.wg_tokens.specs.Cut.{IsLongest}
 use Rattle.wg_lex.specs.declared.numbers.Numeral.{Numeral}
 use Rattle.wg_lex.specs.Numerals.{IsSuffixed, IsNumeral, begins_hexadecimal}
 use Rattle.wg_lex.proofs.Runs.{run_within, run_of_front, take_of_take, drop_of_take}

@@ -1,8 +1,8 @@
 -- When each fault comes.
 use Rattle.std.specs.Prelude.{◌≡◌, ℕ, ◌<◌, ◌≤◌, List, length, take}
 use Rattle.wg_words.specs.declared.place.Place.{Place}
-use Rattle.wg_tree.specs.Cut.{place_after}
-use Rattle.wg_tree.specs.LexicalRules as rules
+use Rattle.wg_tokens.specs.Cut.{place_after}
+use Rattle.wg_tokens.specs.LexicalRules as rules
 use Rattle.wg_lex.specs.declared.fault.LexFault.{LexFault}
 use Rattle.wg_lex.specs.declared.fault.LexFault.TheVariants as is
 

@@ -1,8 +1,8 @@
 -- What stands at the front of a text, as the steps of the lexer say it.
 use Rattle.std.specs.Prelude.{ℕ, ◌⊎◌, ◌&&◌, ◌==◌, if◌then◌else◌, nat_le, List}
-use Rattle.wg_tree.specs.Spelling.{blank, comment, token}
-use Rattle.wg_tree.specs.Cut.{IsLongest}
-use Rattle.wg_tree.specs.LexicalRules.{IsWideLiteral, IsOpenComment, IsStray}
+use Rattle.wg_tokens.specs.Spelling.{blank, comment, token}
+use Rattle.wg_tokens.specs.Cut.{IsLongest}
+use Rattle.wg_tokens.specs.LexicalRules.{IsWideLiteral, IsOpenComment, IsStray}
 use Rattle.wg_lex.specs.declared.fault.LexFault.{LexFault}
 use Rattle.wg_lex.specs.declared.fault.LexFault.TheVariants.{NotAscii, Preprocessor, StrayByte}
 use Rattle.wg_lex.specs.declared.position.Position.{Position}

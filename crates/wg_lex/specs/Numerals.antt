@@ -1,9 +1,9 @@
 -- A number at the front of a text.
 use Rattle.std.specs.Prelude.{◌≡◌, ℕ, ◌+◌, ◌^◌, ◌≤◌, Bool, ◌&&◌, ◌==◌, if◌then◌else◌, List, take, drop, slice_index, codes, IfSome, IfNone}
-use Rattle.wg_tree.specs.Characters.{is_among}
-use Rattle.wg_tree.specs.Spelling.{worth, token, goes_on_hexadecimal}
-use Rattle.wg_tree.specs.Cut.{IsLongest}
-use Rattle.wg_tree.specs.declared.token.TokenKind.TheVariants.{Number}
+use Rattle.wg_tokens.specs.Characters.{is_among}
+use Rattle.wg_tokens.specs.Spelling.{worth, token, goes_on_hexadecimal}
+use Rattle.wg_tokens.specs.Cut.{IsLongest}
+use Rattle.wg_tokens.specs.declared.token.TokenKind.TheVariants.{Number}
 use Rattle.wg_lex.specs.declared.numbers.Numeral.{Numeral}
 
 -- the number is these digits and the suffix after them

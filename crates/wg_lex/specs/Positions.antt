@@ -1,8 +1,8 @@
 -- Places, byte by byte.
 use Rattle.std.specs.Prelude.{ℕ, ◌+◌, true, ◌&&◌, if◌then◌else◌, List}
 use Rattle.std.specs.List.{list_all, after_last}
-use Rattle.wg_tree.specs.Characters.{is_blank, is_line_feed}
-use Rattle.wg_tree.specs.Cut.{place_after}
+use Rattle.wg_tokens.specs.Characters.{is_blank, is_line_feed}
+use Rattle.wg_tokens.specs.Cut.{place_after}
 use Rattle.wg_lex.specs.declared.position.Position.{Position}
 
 -- the position after these bytes

@@ -1,8 +1,8 @@
 -- Parts of a text, as the steps of the lexer say them.
 use Rattle.std.specs.Prelude.{◌≡◌, ℕ, ◌+◌, ◌<◌, ◌≤◌, Bool, true, false, ◌&&◌, ◌==◌, if◌then◌else◌, List, [], ◌∷◌, length, take, slice_index, Option, Some, None}
 use Rattle.std.specs.Option.{option_map}
-use Rattle.wg_tree.specs.Characters.{is_blank, is_letter, is_digit}
-use Rattle.wg_tree.specs.Spelling.{is_punctuation, code_of}
+use Rattle.wg_tokens.specs.Characters.{is_blank, is_letter, is_digit}
+use Rattle.wg_tokens.specs.Spelling.{is_punctuation, code_of}
 
 -- the first n bytes are punctuation of this code, and no more of them are
 pub record IsLongestMark (text : List ℕ) (mark n : ℕ) : Type 0 where

@@ -1,8 +1,8 @@
 //! The bytes of a text by their use, and how far runs of them go.
 ghost use Rattle.std.specs.Prelude.{◌≡◌, ◌≤◌, length, not};
 ghost use Rattle.std.specs.List.{prefix_len};
-ghost use Rattle.wg_tree.specs.Characters as class;
-ghost use Rattle.wg_tree.specs.Spelling as spelling;
+ghost use Rattle.wg_tokens.specs.Characters as class;
+ghost use Rattle.wg_tokens.specs.Spelling as spelling;
 
 pub fn is_blank(b: u8) -> bool
     ensures { result ≡ class.is_blank b }

@@ -1,6 +1,6 @@
 //! What stands at the front of a text.
 ghost use Rattle.std.specs.Prelude.{◌≡◌, ◌<◌, ◌==◌, ◌&&◌, true, false, length, IfOk, slice_index, codes};
-ghost use Rattle.wg_tree.specs.Characters as class;
+ghost use Rattle.wg_tokens.specs.Characters as class;
 ghost use Rattle.wg_lex.specs.Fronts.{IsFront};
 ghost use Rattle.wg_lex.specs.Scanning.{BeginsNoOther};
 
@@ -10,7 +10,7 @@ use crate::marks::longest_mark;
 use crate::numbers::scan_number;
 use crate::slices::{after, before, byte};
 use std::alloc::{AllocError, Global};
-use wg_tree::TokenKind;
+use wg_tokens::TokenKind;
 use wg_words::Items;
 
 /// The longest piece at the front of a text with its size in bytes, or the rule that its front breaks.

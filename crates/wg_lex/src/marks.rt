@@ -1,7 +1,7 @@
 //! Punctuation.
 ghost use Rattle.std.specs.Prelude.{◌≡◌, IfSome, IfNone};
 ghost use Rattle.wg_lex.specs.Scanning.{IsLongestMark, IsNoMark};
-ghost use Rattle.wg_tree.specs.Spelling as spelling;
+ghost use Rattle.wg_tokens.specs.Spelling as spelling;
 
 use crate::slices::byte;
 

@@ -1,7 +1,7 @@
 //! Numbers.
 ghost use Rattle.std.specs.Prelude.{◌≡◌, ◌^◌, ◌<◌, ◌≤◌, length, IfSome, IfNone, slice_index, true};
-ghost use Rattle.wg_tree.specs.Characters as class;
-ghost use Rattle.wg_tree.specs.Spelling as spelling;
+ghost use Rattle.wg_tokens.specs.Characters as class;
+ghost use Rattle.wg_tokens.specs.Spelling as spelling;
 ghost use Rattle.wg_lex.specs.Numerals.{IsNumeral, IsSuffixed, begins_hexadecimal};
 
 use crate::characters::{digits_len, hex_digits_len, is_digit, is_hex_digit};

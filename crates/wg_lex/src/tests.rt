@@ -1,6 +1,6 @@
 use crate::{LexFault, MOST_BYTES, lex};
 use std::test::Fail;
-use wg_tree::{Token, TokenKind};
+use wg_tokens::{Token, TokenKind};
 use wg_words::Place;
 
 fn at(line: u32, column: u32) -> Place {

@@ -1,8 +1,8 @@
 //! A whole text.
 ghost use Rattle.std.specs.Prelude.{◌≡◌, ◌+◌, ◌<◌, ◌≤◌, length, IfOk, IfErr, List};
-ghost use Rattle.wg_tree.specs.Cut.{Cuts};
-ghost use Rattle.wg_tree.specs.LexicalRules.{BreaksNone, most_bytes};
-ghost use Rattle.wg_tree.specs.declared.token.Token.{Token};
+ghost use Rattle.wg_tokens.specs.Cut.{Cuts};
+ghost use Rattle.wg_tokens.specs.LexicalRules.{BreaksNone, most_bytes};
+ghost use Rattle.wg_tokens.specs.declared.token.Token.{Token};
 ghost use Rattle.wg_lex.specs.Faults.{IsFault};
 ghost use Rattle.wg_lex.specs.Fronts.{stray_fault};
 
@@ -11,7 +11,7 @@ use crate::front::{Front, scan};
 use crate::position::Position;
 use crate::slices::{after, before, byte};
 use std::alloc::Global;
-use wg_tree::Token;
+use wg_tokens::Token;
 
 /// The greatest number of bytes of a text.
 pub const MOST_BYTES: usize = 1_048_576;

@@ -1,22 +1,22 @@
 -- What a statement with statements inside it does, by its parts.
 use Rattle.std.proofs.Common.{◌≡◌, ◌≢◌, ℕ, Bool, List, Option, if◌then◌else◌, sym, ap, ◌∙◌}
 use Rattle.std.specs.Prelude.{option_map, Some, None}
-use Rattle.wg_tree.specs.Turns.{Done, Step, and_then, ◌>>=◌, ◌>>◌, pure}
-use Rattle.wg_tree.specs.declared.state.Flow.{Flow}
-use Rattle.wg_tree.specs.declared.state.State.{State}
-use Rattle.wg_tree.specs.declared.typed_expr.TypedExpr.{TypedExpr}
-use Rattle.wg_tree.specs.declared.typed_stmt.TypedAttribute.{TypedAttribute}
-use Rattle.wg_tree.specs.declared.typed_stmt.TypedStart.{TypedStart}
-use Rattle.wg_tree.specs.declared.typed_stmt.TypedStep.{TypedStep}
-use Rattle.wg_tree.specs.declared.typed_stmt.TypedStmt.{TypedStmt}
-use Rattle.wg_tree.specs.declared.typed_stmt.TypedStmt.TheVariants as stmt
-use Rattle.wg_tree.specs.declared.typed_stmt.TypedStmt.TheFolds.{fold-roll-TypedStmt}
-use Rattle.wg_tree.specs.declared.typed_stmt.TypedStmt.TheOpen.{TypedStmt-F}
-use Rattle.wg_tree.specs.Places.{Setting}
-use Rattle.wg_tree.specs.Calls.{Callee}
-use Rattle.wg_tree.specs.ExprMeaning.{seen, word_of, when}
-use Rattle.wg_tree.specs.StepMeaning.{steps_do, started}
-use Rattle.wg_tree.specs.StmtMeaning.{does, stmt_step, loop, test_of, maybe_else}
+use Rattle.wg_state.specs.Turns.{Done, Step, and_then, ◌>>=◌, ◌>>◌, pure}
+use Rattle.wg_semantics.specs.declared.state.Flow.{Flow}
+use Rattle.wg_semantics.specs.declared.state.State.{State}
+use Rattle.wg_typed.specs.declared.typed_expr.TypedExpr.{TypedExpr}
+use Rattle.wg_typed.specs.declared.typed_stmt.TypedAttribute.{TypedAttribute}
+use Rattle.wg_typed.specs.declared.typed_stmt.TypedStart.{TypedStart}
+use Rattle.wg_typed.specs.declared.typed_stmt.TypedStep.{TypedStep}
+use Rattle.wg_typed.specs.declared.typed_stmt.TypedStmt.{TypedStmt}
+use Rattle.wg_typed.specs.declared.typed_stmt.TypedStmt.TheVariants as stmt
+use Rattle.wg_typed.specs.declared.typed_stmt.TypedStmt.TheFolds.{fold-roll-TypedStmt}
+use Rattle.wg_typed.specs.declared.typed_stmt.TypedStmt.TheOpen.{TypedStmt-F}
+use Rattle.wg_semantics.specs.Places.{Setting}
+use Rattle.wg_semantics.specs.Calls.{Callee}
+use Rattle.wg_semantics.specs.ExprMeaning.{seen, word_of, when}
+use Rattle.wg_semantics.specs.StepMeaning.{steps_do, started}
+use Rattle.wg_semantics.specs.StmtMeaning.{does, stmt_step, loop, test_of, maybe_else}
 use Rattle.wg_meaning.specs.declared.halt.Halt.{Halt}
 use Rattle.wg_meaning.specs.Flows.{begun}
 use Rattle.wg_meaning.specs.Says.{Stops}

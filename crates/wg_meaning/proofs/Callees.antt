@@ -2,10 +2,10 @@
 use Rattle.std.proofs.Common.{◌≡◌, ℕ, zero, suc, ◌+◌, ◌<◌, ◌≤◌, List, [], ◌∷◌, ◌++◌, length, take, get_or, refl, sym, ap, ◌∙◌, arith, length-append}
 use Rattle.std.specs.Prelude.{slice_get, Some, None}
 use Rattle.std.proofs.lemmas.Option.{slice_get_past, slice_get_within, get_or_from_slice_get}
-use Rattle.wg_tree.specs.declared.typed.TypedFunction.{TypedFunction}
-use Rattle.wg_tree.specs.Places.{Setting}
-use Rattle.wg_tree.specs.Calls.{Callee, callee_at, callee_in, no_callee}
-use Rattle.wg_tree.specs.FunctionMeaning.{callee_of, callees_after, callees_of}
+use Rattle.wg_typed.specs.declared.typed.TypedFunction.{TypedFunction}
+use Rattle.wg_semantics.specs.Places.{Setting}
+use Rattle.wg_semantics.specs.Calls.{Callee, callee_at, callee_in, no_callee}
+use Rattle.wg_semantics.specs.FunctionMeaning.{callee_of, callees_after, callees_of}
 
 got_before : {A : Type 0} (xs ys : List A) (k : ℕ) → k < length xs → slice_get (xs ++ ys) k ≡ slice_get xs k
 got_before [] ys k lt = absurd (let h : ⊥ = omega (arith, lt) in h)

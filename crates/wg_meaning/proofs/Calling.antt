@@ -1,15 +1,15 @@
 -- What is left of a call, and of the kinds of expressions that evaluate one part first.
 use Rattle.std.proofs.Common.{◌≡◌, ℕ, zero, suc, ◌≤◌, List, [], ◌∷◌, length, drop, map, min, refl, sym, ap, ◌∙◌, arith, append-nil}
 use Rattle.std.specs.Prelude.{slice_get, Some, None}
-use Rattle.wg_tree.specs.Turns.{Outcome, Done, Step, and_then, ◌>>=◌, ◌>>◌, pure}
-use Rattle.wg_tree.specs.declared.state.State.{State}
-use Rattle.wg_tree.specs.declared.state.Passed.{Passed}
-use Rattle.wg_tree.specs.declared.typed.TypedFunction.{TypedFunction}
-use Rattle.wg_tree.specs.declared.typed.TypedParameter.{TypedParameter}
-use Rattle.wg_tree.specs.declared.typed.TypedStruct.{TypedStruct}
-use Rattle.wg_tree.specs.Places.{Setting}
-use Rattle.wg_tree.specs.Calls.{Seen, Callee, callee_at, on_world, all_passed, all_back, called}
-use Rattle.wg_tree.specs.FunctionMeaning.{callees_of}
+use Rattle.wg_state.specs.Turns.{Outcome, Done, Step, and_then, ◌>>=◌, ◌>>◌, pure}
+use Rattle.wg_semantics.specs.declared.state.State.{State}
+use Rattle.wg_semantics.specs.declared.state.Passed.{Passed}
+use Rattle.wg_typed.specs.declared.typed.TypedFunction.{TypedFunction}
+use Rattle.wg_typed.specs.declared.typed.TypedParameter.{TypedParameter}
+use Rattle.wg_typed.specs.declared.typed.TypedStruct.{TypedStruct}
+use Rattle.wg_semantics.specs.Places.{Setting}
+use Rattle.wg_semantics.specs.Calls.{Seen, Callee, callee_at, on_world, all_passed, all_back, called}
+use Rattle.wg_semantics.specs.FunctionMeaning.{callees_of}
 use Rattle.wg_meaning.specs.declared.halt.Halt.{Halt}
 use Rattle.wg_meaning.specs.Says.{Stops}
 use Rattle.wg_meaning.proofs.Sequences.{gives, stops_next, stops_same, drop_past}

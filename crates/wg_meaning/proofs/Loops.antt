@@ -2,13 +2,13 @@
 use Rattle.std.proofs.Common.{◌≡◌, ◌≢◌, ◌==◌, ℕ, zero, suc, ◌<◌, ◌≤◌, true, false, not, if◌then◌else◌, refl, sym, ap, ◌∙◌, arith}
 use Rattle.std.proofs.lemmas.Bool.Decides.{nat_tests}
 use Rattle.std.specs.Prelude.{Some, None}
-use Rattle.wg_tree.specs.Operators.{is_true}
-use Rattle.wg_tree.specs.Turns.{Outcome, Done, Step, and_then, ◌>>◌, pure}
-use Rattle.wg_tree.specs.declared.state.Flow.{Flow}
-use Rattle.wg_tree.specs.declared.state.Flow.TheVariants as flow
-use Rattle.wg_tree.specs.declared.state.State.{State}
-use Rattle.wg_tree.specs.ExprMeaning.{when}
-use Rattle.wg_tree.specs.StmtMeaning.{after_body, loop, loop_below}
+use Rattle.wg_typed.specs.Operators.{is_true}
+use Rattle.wg_state.specs.Turns.{Outcome, Done, Step, and_then, ◌>>◌, pure}
+use Rattle.wg_semantics.specs.declared.state.Flow.{Flow}
+use Rattle.wg_semantics.specs.declared.state.Flow.TheVariants as flow
+use Rattle.wg_semantics.specs.declared.state.State.{State}
+use Rattle.wg_semantics.specs.ExprMeaning.{when}
+use Rattle.wg_semantics.specs.StmtMeaning.{after_body, loop, loop_below}
 use Rattle.wg_meaning.specs.declared.halt.Halt.{Halt}
 use Rattle.wg_meaning.specs.Flows.{loop_left, entered as entered_body}
 use Rattle.wg_meaning.specs.Says.{Stops}

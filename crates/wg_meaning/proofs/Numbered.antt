@@ -2,12 +2,12 @@
 use Rattle.std.proofs.Common.{◌≡◌, ℕ, zero, suc, ◌≤◌, List, [], ◌∷◌, length, take, sym, ap, ◌∙◌, arith, take_all, take-take}
 use Rattle.std.specs.Prelude.{slice_get, Some, None}
 use Rattle.std.proofs.lemmas.Option.{slice_get_within}
-use Rattle.wg_tree.specs.Turns.{Outcome, Done}
-use Rattle.wg_tree.specs.declared.state.State.{State}
-use Rattle.wg_tree.specs.declared.typed.TypedFunction.{TypedFunction}
-use Rattle.wg_tree.specs.Places.{Setting}
-use Rattle.wg_tree.specs.Calls.{callee_at, on_world}
-use Rattle.wg_tree.specs.FunctionMeaning.{callees_of, function_does}
+use Rattle.wg_state.specs.Turns.{Outcome, Done}
+use Rattle.wg_semantics.specs.declared.state.State.{State}
+use Rattle.wg_typed.specs.declared.typed.TypedFunction.{TypedFunction}
+use Rattle.wg_semantics.specs.Places.{Setting}
+use Rattle.wg_semantics.specs.Calls.{callee_at, on_world}
+use Rattle.wg_semantics.specs.FunctionMeaning.{callees_of, function_does}
 use Rattle.wg_meaning.proofs.Callees.{function_found, function_missing}
 
 take_short : {A : Type 0} (n : ℕ) (xs : List A) → length (take n xs) ≤ n

@@ -1,13 +1,13 @@
 -- What is left of a loop over steps.
 use Rattle.std.proofs.Common.{◌≡◌, ℕ, zero, suc, ◌+◌, ◌<◌, ◌≤◌, List, [], ◌∷◌, ◌++◌, length, drop, get_or, map, refl, sym, ap, ◌∙◌, arith, drop-cons, add-one, append-nil, append_assoc}
-use Rattle.wg_tree.specs.Turns.{Outcome, Spent, Done, Step, and_then, ◌>>=◌, pure, each, all}
-use Rattle.wg_tree.specs.StmtMeaning.{block, then_go}
-use Rattle.wg_tree.specs.declared.state.Flow.{Flow}
-use Rattle.wg_tree.specs.declared.state.Flow.TheVariants as flow
-use Rattle.wg_tree.specs.declared.state.State.{State}
-use Rattle.wg_tree.specs.declared.state.Spot.{Spot}
-use Rattle.wg_tree.specs.declared.types.TypeTree.{TypeTree}
-use Rattle.wg_tree.specs.ExprMeaning.{Follows, Linked, followed, chained}
+use Rattle.wg_state.specs.Turns.{Outcome, Spent, Done, Step, and_then, ◌>>=◌, pure, each, all}
+use Rattle.wg_semantics.specs.StmtMeaning.{block, then_go}
+use Rattle.wg_semantics.specs.declared.state.Flow.{Flow}
+use Rattle.wg_semantics.specs.declared.state.Flow.TheVariants as flow
+use Rattle.wg_semantics.specs.declared.state.State.{State}
+use Rattle.wg_semantics.specs.declared.state.Spot.{Spot}
+use Rattle.wg_typed.specs.declared.types.TypeTree.{TypeTree}
+use Rattle.wg_semantics.specs.ExprMeaning.{Follows, Linked, followed, chained}
 use Rattle.wg_meaning.specs.declared.halt.Halt.{Halt}
 use Rattle.wg_meaning.specs.declared.halt.Halt.TheVariants as halt
 use Rattle.wg_meaning.specs.Says.{Stops}

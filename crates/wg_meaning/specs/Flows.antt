@@ -1,9 +1,9 @@
 -- What statements and loops do after a part of them has ended.
 use Rattle.std.specs.Prelude.{Bool, true, false, Option, Some, None, Result, Ok, Err}
-use Rattle.wg_tree.specs.Turns.{Step, ◌>>◌, turn}
-use Rattle.wg_tree.specs.declared.state.State.{State}
-use Rattle.wg_tree.specs.declared.state.Flow.{Flow}
-use Rattle.wg_tree.specs.declared.state.Flow.TheVariants as flow
+use Rattle.wg_state.specs.Turns.{Step, ◌>>◌, turn}
+use Rattle.wg_semantics.specs.declared.state.State.{State}
+use Rattle.wg_semantics.specs.declared.state.Flow.{Flow}
+use Rattle.wg_semantics.specs.declared.state.Flow.TheVariants as flow
 use Rattle.wg_meaning.specs.declared.halt.Halt.{Halt}
 
 -- whether the statements after one run

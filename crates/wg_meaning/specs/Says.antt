@@ -1,14 +1,14 @@
 -- What the program's answer says of a step.
 use Rattle.std.specs.Prelude.{◌≡◌, ⊤, ℕ, List, Option, Some, None, Result, Ok, Err, take}
-use Rattle.wg_tree.specs.Turns.{Outcome, Spent, Done, Step, ◌>>=◌, pure}
-use Rattle.wg_tree.specs.declared.state.State.{State}
-use Rattle.wg_tree.specs.declared.state.Spot.{Spot}
-use Rattle.wg_tree.specs.declared.state.Spot.TheVariants as spot
-use Rattle.wg_tree.specs.Places.{Setting, written}
-use Rattle.wg_tree.specs.Calls.{Callee, Seen}
-use Rattle.wg_tree.specs.ExprMeaning.{word_of}
-use Rattle.wg_tree.specs.StepMeaning.{raw_word}
-use Rattle.wg_tree.specs.FunctionMeaning.{callees_of}
+use Rattle.wg_state.specs.Turns.{Outcome, Spent, Done, Step, ◌>>=◌, pure}
+use Rattle.wg_semantics.specs.declared.state.State.{State}
+use Rattle.wg_semantics.specs.declared.state.Spot.{Spot}
+use Rattle.wg_semantics.specs.declared.state.Spot.TheVariants as spot
+use Rattle.wg_semantics.specs.Places.{Setting, written}
+use Rattle.wg_semantics.specs.Calls.{Callee, Seen}
+use Rattle.wg_semantics.specs.ExprMeaning.{word_of}
+use Rattle.wg_semantics.specs.StepMeaning.{raw_word}
+use Rattle.wg_semantics.specs.FunctionMeaning.{callees_of}
 use Rattle.wg_meaning.specs.declared.halt.Halt.{Halt}
 use Rattle.wg_meaning.specs.declared.halt.Halt.TheVariants as halt
 use Rattle.wg_values.specs.declared.place.Setting.{Setting as Given}

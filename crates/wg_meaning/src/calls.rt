@@ -1,12 +1,12 @@
 ghost use Rattle.std.specs.Prelude.{◌≡◌, ◌≤◌, ◌<◌, ◌↔◌, ℕ, IfOk, IsTrue, map};
-ghost use Rattle.wg_tree.specs.declared.state.Passed.{Passed as Given};
-ghost use Rattle.wg_tree.specs.Turns.{Done};
-ghost use Rattle.wg_tree.specs.Calls.{callee_at, on_world, all_back};
+ghost use Rattle.wg_semantics.specs.declared.state.Passed.{Passed as Given};
+ghost use Rattle.wg_state.specs.Turns.{Done};
+ghost use Rattle.wg_semantics.specs.Calls.{callee_at, on_world, all_back};
 ghost use Rattle.wg_meaning.specs.Says.{Says, callees_in, back_in};
 
 use crate::halt::Halt;
 use std::alloc::{AllocError, Global};
-use wg_tree::{Passed, State};
+use wg_semantics::{Passed, State};
 use wg_values::{Setting, write};
 use wg_words::{Items, WordLists, Words};
 

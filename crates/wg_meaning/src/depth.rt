@@ -1,6 +1,6 @@
 ghost use Rattle.std.specs.Prelude.{◌≡◌, IfOk};
-ghost use Rattle.wg_tree.specs.FunctionMeaning.{callees_of};
-ghost use Rattle.wg_tree.specs.StmtMeaning.{body_does};
+ghost use Rattle.wg_semantics.specs.FunctionMeaning.{callees_of};
+ghost use Rattle.wg_semantics.specs.StmtMeaning.{body_does};
 ghost use Rattle.wg_values.specs.Pieces.{setting_of};
 ghost use Rattle.wg_meaning.specs.Reach.{reach_of};
 ghost use Rattle.wg_meaning.specs.Says.{Says};
@@ -11,7 +11,8 @@ use crate::halt::Halt;
 use crate::stmt::block;
 use sqlite_items::Boxed;
 use std::alloc::{AllocError, Global};
-use wg_tree::{Flow, TypedStmt};
+use wg_semantics::Flow;
+use wg_typed::TypedStmt;
 use wg_values::Setting;
 use wg_words::{WordLists, Words};
 

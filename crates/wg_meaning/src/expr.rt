@@ -1,12 +1,12 @@
 ghost use Rattle.std.specs.Prelude.{◌≡◌, ◌≤◌, [], ◌∷◌, IfOk, length, map, option_map, take, slice_get};
-ghost use Rattle.wg_tree.specs.declared.state.Spot.TheVariants as spot;
+ghost use Rattle.wg_semantics.specs.declared.state.Spot.TheVariants as spot;
 ghost use Rattle.std.specs.Option.{option_copied};
-ghost use Rattle.wg_tree.specs.Turns.{Done, each};
-ghost use Rattle.wg_tree.specs.declared.typed_expr.Access.TheOpen.{TypedKind-F};
-ghost use Rattle.wg_tree.specs.Layout.{words_of};
-ghost use Rattle.wg_tree.specs.Places.{array_size, zeros};
-ghost use Rattle.wg_tree.specs.Calls.{value_of, all_passed, passed, called, callee_at, direction_in};
-ghost use Rattle.wg_tree.specs.ExprMeaning.{seen, kind_step, kind_does, follows, links, word_of, index_of, followed, chained, operated, components_of};
+ghost use Rattle.wg_state.specs.Turns.{Done, each};
+ghost use Rattle.wg_typed.specs.declared.typed_expr.Access.TheOpen.{TypedKind-F};
+ghost use Rattle.wg_typed.specs.Layout.{words_of};
+ghost use Rattle.wg_semantics.specs.Places.{array_size, zeros};
+ghost use Rattle.wg_semantics.specs.Calls.{value_of, all_passed, passed, called, callee_at, direction_in};
+ghost use Rattle.wg_semantics.specs.ExprMeaning.{seen, kind_step, kind_does, follows, links, word_of, index_of, followed, chained, operated, components_of};
 ghost use Rattle.wg_values.specs.Pieces.{setting_of};
 ghost use Rattle.wg_meaning.specs.Says.{Says, callees_in, spot_result};
 
@@ -14,10 +14,9 @@ use crate::calls::{Calls, Run, copy_all_back, passed_words};
 use crate::halt::Halt;
 use sqlite_items::{Boxed, Items};
 use std::alloc::AllocError;
-use wg_tree::{
-    Access, BinaryOperator, Directed, Direction, Intrinsic, Passed, PrefixOperator, Spot, State,
-    Store, TypeTree, TypedExpr, TypedFunction, TypedKind, TypedLink, TypedParameter,
-};
+use wg_semantics::{Passed, Spot, State, Store};
+use wg_tree::{BinaryOperator, Directed, Direction, PrefixOperator};
+use wg_typed::{Access, Intrinsic, TypeTree, TypedExpr, TypedFunction, TypedKind, TypedLink, TypedParameter};
 use wg_values::{
     Setting, buffer_place, combine_all, components, convert, element, fetch, field_piece,
     handle_place, input_place, intrinsic, parameter_size, part, prefix_all, put_all, raw_words,

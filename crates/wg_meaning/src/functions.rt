@@ -1,6 +1,6 @@
 ghost use Rattle.std.specs.Prelude.{◌≡◌, ◌≤◌, ◌<◌, suc, IfOk, OnSome, length, take, slice_get};
-ghost use Rattle.wg_tree.specs.Calls.{callee_at, on_world};
-ghost use Rattle.wg_tree.specs.FunctionMeaning.{result_words, result_of, function_does};
+ghost use Rattle.wg_semantics.specs.Calls.{callee_at, on_world};
+ghost use Rattle.wg_semantics.specs.FunctionMeaning.{result_words, result_of, function_does};
 ghost use Rattle.wg_values.specs.Pieces.{setting_of};
 ghost use Rattle.std.specs.Option.{option_copied};
 ghost use Rattle.wg_meaning.specs.Says.{Says, callees_in};
@@ -10,7 +10,8 @@ use crate::halt::Halt;
 use crate::stmt::block;
 use std::alloc::AllocError;
 use std::mem;
-use wg_tree::{Flow, Frame, TypeTree, TypedFunction};
+use wg_semantics::{Flow, Frame};
+use wg_typed::{TypeTree, TypedFunction};
 use wg_values::{Setting, fresh, zero_words};
 use wg_words::{WordLists, Words};
 

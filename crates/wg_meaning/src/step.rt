@@ -1,8 +1,8 @@
 ghost use Rattle.std.specs.Prelude.{◌≡◌, ◌≤◌, ◌/◌, IfOk};
-ghost use Rattle.wg_tree.specs.declared.state.Store.TheVariants as store;
-ghost use Rattle.wg_tree.specs.declared.state.Spot.TheVariants as spot;
-ghost use Rattle.wg_tree.specs.ExprMeaning.{seen};
-ghost use Rattle.wg_tree.specs.StepMeaning.{assigned, updated, changed, raw_stored, exchanged, signedness, destination_of, maybe_word, maybe_spot, word_at as word_there, interlocked, step_does, steps_do, start_value, declared_as, all_declared, started};
+ghost use Rattle.wg_semantics.specs.declared.state.Store.TheVariants as store;
+ghost use Rattle.wg_semantics.specs.declared.state.Spot.TheVariants as spot;
+ghost use Rattle.wg_semantics.specs.ExprMeaning.{seen};
+ghost use Rattle.wg_semantics.specs.StepMeaning.{assigned, updated, changed, raw_stored, exchanged, signedness, destination_of, maybe_word, maybe_spot, word_at as word_there, interlocked, step_does, steps_do, start_value, declared_as, all_declared, started};
 ghost use Rattle.wg_values.specs.Pieces.{setting_of};
 ghost use Rattle.wg_meaning.specs.Says.{Says, callees_in, raw_destination_of};
 
@@ -11,10 +11,9 @@ use crate::expr::{call, spot, value, word};
 use crate::halt::Halt;
 use sqlite_items::Items;
 use std::alloc::AllocError;
-use wg_tree::{
-    BinaryOperator, Destination, Interlocked, InterlockedForm, Scalar, Spot, State, StepOperator,
-    Store, TypeTree, TypedDeclarator, TypedExpr, TypedStart, TypedStep,
-};
+use wg_semantics::{Spot, State, Store};
+use wg_tree::{BinaryOperator, Scalar, StepOperator};
+use wg_typed::{Destination, Interlocked, InterlockedForm, TypeTree, TypedDeclarator, TypedExpr, TypedStart, TypedStep};
 use wg_values::{
     Setting, combine_all, convert, fetch, greater, lesser, scalar, step_all, word_at, write,
     zero_value,

@@ -1,8 +1,8 @@
 ghost use Rattle.std.specs.Prelude.{◌≡◌, ◌≤◌, ◌<◌, OnOk, option_map};
-ghost use Rattle.wg_tree.specs.Turns.{Done, pure};
-ghost use Rattle.wg_tree.specs.ExprMeaning.{seen, word_of};
-ghost use Rattle.wg_tree.specs.StepMeaning.{steps_do, started};
-ghost use Rattle.wg_tree.specs.StmtMeaning.{loop as looped, test_of, of_group, is_group_handle, asks, completes, maybe_else, returned, does, body_does};
+ghost use Rattle.wg_state.specs.Turns.{Done, pure};
+ghost use Rattle.wg_semantics.specs.ExprMeaning.{seen, word_of};
+ghost use Rattle.wg_semantics.specs.StepMeaning.{steps_do, started};
+ghost use Rattle.wg_semantics.specs.StmtMeaning.{loop as looped, test_of, of_group, is_group_handle, asks, completes, maybe_else, returned, does, body_does};
 ghost use Rattle.wg_meaning.specs.Flows.{begun, entered, goes_on as flow_goes_on, loop_left, next_result};
 ghost use Rattle.wg_values.specs.Pieces.{setting_of};
 ghost use Rattle.wg_meaning.specs.Says.{Says, callees_in};
@@ -12,7 +12,8 @@ use crate::expr::{value, word};
 use crate::halt::Halt;
 use crate::step::{declare_all, optional_word, start as begin, step, steps};
 use sqlite_items::{Boxed, Items};
-use wg_tree::{Flow, TypedExpr, TypedStart, TypedStep, TypedStmt};
+use wg_semantics::Flow;
+use wg_typed::{TypedExpr, TypedStart, TypedStep, TypedStmt};
 use wg_values::{Request, Setting, ask, close, grant};
 use wg_words::{Word, Words};
 

@@ -1,6 +1,6 @@
 -- What is told of the tokens, once their answer is known.
 use Rattle.std.proofs.Common.{◌≡◌, ℕ, List, [], ◌∷◌, length, refl, subst, arith, Result, Ok, Err, IfOk, IfErr}
-use Rattle.wg_tree.specs.declared.token.Token.{Token}
+use Rattle.wg_tokens.specs.declared.token.Token.{Token}
 use Rattle.wg_tree.specs.declared.item.Source.{Source}
 use Rattle.wg_tree.specs.ParseFaults.{SpelledWithin, Answer, spelled, expected, too_deep, IsAnswer, IsExpected}
 use Rattle.wg_tree.specs.ReadsItem.{read_text}

@@ -1,7 +1,7 @@
 -- A parameter has a direction where the next token is one.
 use Rattle.std.proofs.Common.{◌≡◌, Bool, true, List, [], ◌∷◌, refl, sym, subst, if◌then◌else◌, Some, None}
-use Rattle.wg_tree.specs.declared.token.Token.{Token}
-use Rattle.wg_tree.specs.declared.keyword.Keyword.TheVariants as k
+use Rattle.wg_tokens.specs.declared.token.Token.{Token}
+use Rattle.wg_tokens.specs.declared.keyword.Keyword.TheVariants as k
 use Rattle.wg_grammar.specs.Reading.{Got, Wrong, and_then, sees, take_if}
 use Rattle.wg_grammar.specs.Parts.{of}
 use Rattle.wg_tree.specs.Symbols.{code, class}

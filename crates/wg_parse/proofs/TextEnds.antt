@@ -4,11 +4,11 @@ use Rattle.std.specs.List.{suffix_len}
 use Rattle.std.proofs.lemmas.List.{length-take}
 use Rattle.std.proofs.lemmas.List.Sums.{suffix_len-le-length}
 use Rattle.wg_words.specs.Each.{Each}
-use Rattle.wg_tree.specs.declared.token.Token.{Token}
-use Rattle.wg_tree.specs.Characters.{is_line_feed}
-use Rattle.wg_tree.specs.Spelling.{Matter, blank, comment, token}
-use Rattle.wg_tree.specs.Cut.{Piece, size_of, tokens_of}
-use Rattle.wg_tree.specs.LexicalRules.{most_bytes}
+use Rattle.wg_tokens.specs.declared.token.Token.{Token}
+use Rattle.wg_tokens.specs.Characters.{is_line_feed}
+use Rattle.wg_tokens.specs.Spelling.{Matter, blank, comment, token}
+use Rattle.wg_tokens.specs.Cut.{Piece, size_of, tokens_of}
+use Rattle.wg_tokens.specs.LexicalRules.{most_bytes}
 use Rattle.wg_parse.specs.Faults.{IsOfText, in_32_bits, end_of, last}
 
 abbrev Fits : Token → Type 0

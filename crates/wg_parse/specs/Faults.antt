@@ -1,12 +1,12 @@
 -- What is answered for tokens that spell no tree within the nesting: the place and the kind of the first that fails. Own.
 use Rattle.std.specs.Prelude.{◌≡◌, ℕ, ◌+◌, ◌-◌, ◌≤◌, ◌^◌, min, List, [], ◌∷◌, length, slice_get, Option, Some, None, Result, Ok, Err}
 use Rattle.wg_words.specs.declared.place.Place.{Place}
-use Rattle.wg_tree.specs.declared.token.Token.{Token}
-use Rattle.wg_tree.specs.declared.token.TokenKind.{TokenKind}
-use Rattle.wg_tree.specs.declared.token.TokenKind.TheVariants as kind
+use Rattle.wg_tokens.specs.declared.token.Token.{Token}
+use Rattle.wg_tokens.specs.declared.token.TokenKind.{TokenKind}
+use Rattle.wg_tokens.specs.declared.token.TokenKind.TheVariants as kind
 use Rattle.wg_tree.specs.declared.item.Source.{Source}
-use Rattle.wg_tree.specs.Cut.{Cuts}
-use Rattle.wg_tree.specs.LexicalRules.{most_bytes}
+use Rattle.wg_tokens.specs.Cut.{Cuts}
+use Rattle.wg_tokens.specs.LexicalRules.{most_bytes}
 use Rattle.wg_tree.specs.ParseFaults.{IsExpected, IsTooDeep, Answer, spelled, expected, too_deep}
 use Rattle.wg_parse.specs.declared.parsing.ParseFault.{ParseFault}
 use Rattle.wg_parse.specs.declared.parsing.ParseFault.TheVariants as fault

@@ -1,8 +1,8 @@
 -- Pieces of the declarations of a text, each read by a function of its own.
 use Rattle.std.specs.Prelude.{false, List, [], ◌∷◌, Option}
 use Rattle.wg_words.specs.declared.place.Place.{Place}
-use Rattle.wg_tree.specs.declared.token.Token.{Token}
-use Rattle.wg_tree.specs.declared.keyword.Keyword.TheVariants as k
+use Rattle.wg_tokens.specs.declared.token.Token.{Token}
+use Rattle.wg_tokens.specs.declared.keyword.Keyword.TheVariants as k
 use Rattle.wg_tree.specs.declared.expr.Named.{Named}
 use Rattle.wg_tree.specs.declared.item.Directed.{Directed}
 use Rattle.wg_tree.specs.declared.item.ParameterType.{ParameterType}

@@ -13,7 +13,8 @@ use wg_cursor::words::*;
 use wg_cursor::{Cursor, Halt, Rule, class, many};
 use wg_expressions::{Kind, expr};
 use wg_statements::{TYPES, a_type, attributes, block, size, type_argument};
-use wg_tree::{BufferType, Field, Item, Keyword, Named, ResultType, Source};
+use wg_tokens::Keyword;
+use wg_tree::{BufferType, Field, Item, Named, ResultType, Source};
 use wg_words::Place;
 
 const RAW_BUFFERS: [u32; 2] = [RW_BYTE_ADDRESS_BUFFER, BYTE_ADDRESS_BUFFER];

@@ -11,7 +11,8 @@ use wg_cursor::symbols::*;
 use wg_cursor::words::*;
 use wg_cursor::{Cursor, Halt, Rule, class, many};
 use wg_statements::{TYPES, a_type, attributes, parameter_object};
-use wg_tree::{Directed, Direction, Named, Parameter, ParameterType, Token};
+use wg_tokens::Token;
+use wg_tree::{Directed, Direction, Named, Parameter, ParameterType};
 
 const DIRECTIONS: [u32; 3] = [IN, OUT, IN_OUT];
 

@@ -1,13 +1,14 @@
 //! A whole text.
 ghost use Rattle.std.specs.Prelude.{◌≡◌, List, IfOk, IfErr};
-ghost use Rattle.wg_tree.specs.declared.token.Token.{Token as Cut};
+ghost use Rattle.wg_tokens.specs.declared.token.Token.{Token as Cut};
 ghost use Rattle.wg_tree.specs.ParseFaults.{SpelledWithin, Answer, IsAnswer};
 ghost use Rattle.wg_parse.specs.Faults as spec;
 
 use crate::item::text;
 use std::alloc::{AllocError, Global};
 use wg_cursor::{Cursor, Halt, classes};
-use wg_tree::{Source, Token, TokenKind, one_answer, reads_to_the_fault, reads_what_is_spelled};
+use wg_tokens::{Token, TokenKind};
+use wg_tree::{Source, one_answer, reads_to_the_fault, reads_what_is_spelled};
 use wg_words::{Place, TryCopy};
 
 /// How deep statements and expressions may nest, each.

@@ -4,7 +4,8 @@ use crate::{ParseFault, parse};
 use std::alloc::Global;
 use std::test::Fail;
 use wg_lex::lex;
-use wg_tree::{Item, Source, Stmt, TokenKind};
+use wg_tokens::TokenKind;
+use wg_tree::{Item, Source, Stmt};
 use wg_words::{Name, Place};
 
 /// What is answered, without the tree and the names.

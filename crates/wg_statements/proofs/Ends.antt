@@ -1,7 +1,7 @@
 -- A `;` that ends each of several statements ends the one that is read.
 use Rattle.std.proofs.Common.{◌≡◌, ℕ, Bool, true, false, List, [], ◌∷◌, refl, if◌then◌else◌}
 use Rattle.wg_words.specs.declared.place.Place.{Place}
-use Rattle.wg_tree.specs.declared.token.Token.{Token}
+use Rattle.wg_tokens.specs.declared.token.Token.{Token}
 use Rattle.wg_tree.specs.declared.stmt.Stmt.{Stmt}
 use Rattle.wg_grammar.specs.Reading.{Outcome, Got, Wrong, Deep, Reader, and_then, sees, take_if}
 use Rattle.wg_grammar.specs.Parts.{Part, of, first, sub}

@@ -1,6 +1,6 @@
 -- A type is a name or a type of values, as the next token says.
 use Rattle.std.proofs.Common.{◌≡◌, ◌||◌, ◌==◌, Bool, true, false, List, [], ◌∷◌, refl, if◌then◌else◌}
-use Rattle.wg_tree.specs.declared.token.Token.{Token}
+use Rattle.wg_tokens.specs.declared.token.Token.{Token}
 use Rattle.wg_tree.specs.declared.expr.TypeName.TheVariants as type_name
 use Rattle.wg_grammar.specs.Reading.{Got, Wrong, and_then, sees, take_if}
 use Rattle.wg_grammar.specs.Parts.{of}

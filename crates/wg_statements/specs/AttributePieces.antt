@@ -1,6 +1,6 @@
 -- Pieces of attributes, each read by a function of its own.
 use Rattle.std.specs.Prelude.{List, [], ◌∷◌}
-use Rattle.wg_tree.specs.declared.token.Token.{Token}
+use Rattle.wg_tokens.specs.declared.token.Token.{Token}
 use Rattle.wg_tree.specs.declared.expr.Expr.{Expr}
 use Rattle.wg_tree.specs.declared.stmt.Attribute.{Attribute}
 use Rattle.wg_grammar.specs.Parts.{Part, give, list, sub, ◌<*>◌, ◌<$>◌, ◌<*◌, ◌*>◌, ◌<|>◌}

@@ -4,7 +4,7 @@ use Rattle.wg_tree.specs.declared.expr.Expr.{Expr}
 use Rattle.wg_tree.specs.declared.stmt.Attribute.{Attribute}
 use Rattle.wg_tree.specs.declared.stmt.Step.{Step}
 use Rattle.wg_tree.specs.declared.stmt.Stmt.{Stmt}
-use Rattle.wg_tree.specs.declared.token.Token.{Token}
+use Rattle.wg_tokens.specs.declared.token.Token.{Token}
 use Rattle.wg_grammar.specs.Reading.{◌>>=◌, pure}
 use Rattle.wg_grammar.specs.Parts.{Part, reads}
 use Rattle.wg_tree.specs.Symbols.{class}

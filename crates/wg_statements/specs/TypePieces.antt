@@ -1,6 +1,6 @@
 -- Pieces of types and objects, each read by a function of its own.
 use Rattle.std.specs.Prelude.{ℕ, List, Some, None}
-use Rattle.wg_tree.specs.declared.token.Token.{Token}
+use Rattle.wg_tokens.specs.declared.token.Token.{Token}
 use Rattle.wg_tree.specs.declared.expr.TypeName.{TypeName}
 use Rattle.wg_tree.specs.declared.expr.TypeName.TheVariants as type_name
 use Rattle.wg_tree.specs.declared.stmt.ObjectType.{ObjectType}

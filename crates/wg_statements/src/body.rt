@@ -15,7 +15,8 @@ use std::alloc::Global;
 use wg_cursor::symbols::*;
 use wg_cursor::words::*;
 use wg_cursor::{Cursor, Halt, read_by_turns};
-use wg_tree::{Attribute, Keyword, Stmt};
+use wg_tokens::Keyword;
+use wg_tree::{Attribute, Stmt};
 use wg_words::Place;
 
 /// The classes with which a statement with a body begins.

@@ -9,7 +9,8 @@ use std::alloc::Global;
 use wg_cursor::symbols::{ASSIGN, COMMA, LEFT_BRACKET, RIGHT_BRACKET};
 use wg_cursor::{Cursor, Halt, Rule, many};
 use wg_expressions::{Kind, expr};
-use wg_tree::{Declaration, Declarator, Expr, Keyword};
+use wg_tokens::Keyword;
+use wg_tree::{Declaration, Declarator, Expr};
 
 /// The size of an array, if it is one.
 pub fn size(alloc: Global, cursor: &mut Cursor<'_>, room: u32) -> Result<Option<Expr>, Halt>

@@ -10,7 +10,8 @@ use wg_cursor::symbols::*;
 use wg_cursor::words::*;
 use wg_cursor::{Cursor, Halt, Rule, at_class, class, many};
 use wg_expressions::{Kind, expr};
-use wg_tree::{AssignOperator, Expr, Step, StepOperator, Steps, Token};
+use wg_tokens::Token;
+use wg_tree::{AssignOperator, Expr, Step, StepOperator, Steps};
 
 const ASSIGN_OPERATORS: [u32; 11] = [
     ASSIGN,

@@ -13,7 +13,8 @@ use wg_cursor::symbols::*;
 use wg_cursor::words::*;
 use wg_cursor::{Cursor, Halt};
 use wg_expressions::{Kind, expr};
-use wg_tree::{Expr, Header, Keyword, Start, Steps, Stmt};
+use wg_tokens::Keyword;
+use wg_tree::{Expr, Header, Start, Steps, Stmt};
 
 /// The classes with which the start of a `for` begins.
 const START_STARTS: [u32; 25] = [

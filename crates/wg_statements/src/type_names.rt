@@ -14,7 +14,8 @@ use wg_cursor::symbols::*;
 use wg_cursor::words::*;
 use wg_cursor::{Cursor, Halt, at_class, class};
 use wg_expressions::{VALUE_TYPES, value_type};
-use wg_tree::{ObjectType, ObjectWord, Token, TypeName};
+use wg_tokens::Token;
+use wg_tree::{ObjectType, ObjectWord, TypeName};
 
 /// The classes with which a type begins.
 pub const TYPES: [u32; 13] = [

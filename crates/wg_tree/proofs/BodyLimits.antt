@@ -1,7 +1,7 @@
 -- What is spelled as a block or a body, however deep, is read, or reading stops at the first token that is too deep.
 use Rattle.std.proofs.Common.{◌≡◌, ℕ, zero, suc, ◌+◌, ◌≤◌, true, false, List, [], ◌++◌, refl, sym, ◌∙◌, ap, inl, inr, arith, Some, None}
 use Rattle.wg_words.specs.declared.place.Place.{Place}
-use Rattle.wg_tree.specs.declared.token.Token.{Token}
+use Rattle.wg_tokens.specs.declared.token.Token.{Token}
 use Rattle.wg_tree.specs.declared.expr.Expr.{Expr}
 use Rattle.wg_tree.specs.declared.stmt.Attribute.{Attribute}
 use Rattle.wg_tree.specs.declared.stmt.Stmt.{Stmt}

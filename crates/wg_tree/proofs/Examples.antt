@@ -1,10 +1,10 @@
 -- A token of each class.
 use Rattle.std.proofs.Common.{ℕ, ◌==◌, false, List, [], ◌∷◌, if◌then◌else◌}
 use Rattle.std.specs.Prelude.{codes}
-use Rattle.wg_tree.specs.declared.token.Token.{Token}
-use Rattle.wg_tree.specs.declared.token.TokenKind.{TokenKind}
-use Rattle.wg_tree.specs.declared.token.TokenKind.TheVariants as kind
-use Rattle.wg_tree.specs.declared.keyword.Keyword.{Keyword}
+use Rattle.wg_tokens.specs.declared.token.Token.{Token}
+use Rattle.wg_tokens.specs.declared.token.TokenKind.{TokenKind}
+use Rattle.wg_tokens.specs.declared.token.TokenKind.TheVariants as kind
+use Rattle.wg_tokens.specs.declared.keyword.Keyword.{Keyword}
 use Rattle.wg_tree.specs.Symbols.{NAME, ZERO, NUMBER, TEXT, END, code, spellings}
 
 abbrev pub keyword_or : List (List ℕ × Keyword) → ℕ → TokenKind

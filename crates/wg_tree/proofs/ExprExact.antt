@@ -1,7 +1,7 @@
 -- An expression is read exactly, whatever the room.
 use Rattle.std.proofs.Common.{◌≡◌, ℕ, zero, suc, ◌≤◌, true, false, List, [], ◌∷◌, refl, sym, ◌∙◌, ap, subst, if◌then◌else◌, inl, inr, arith, None, Option}
 use Rattle.std.proofs.lemmas.List.{append-nil}
-use Rattle.wg_tree.specs.declared.token.Token.{Token}
+use Rattle.wg_tokens.specs.declared.token.Token.{Token}
 use Rattle.wg_tree.specs.declared.expr.Expr.{Expr}
 use Rattle.wg_tree.specs.declared.expr.Expr.TheVariants as e
 use Rattle.wg_tree.specs.declared.expr.Link.{Link}

@@ -1,6 +1,6 @@
 -- How much an expression takes before it stops at a token that is too deep.
 use Rattle.std.proofs.Common.{◌≡◌, ℕ, suc, ◌==◌, ◌||◌, ◌&&◌, Bool, true, false, List, [], ◌∷◌, refl, sym, ◌∙◌, ap, subst, if◌then◌else◌, arith}
-use Rattle.wg_tree.specs.declared.token.Token.{Token}
+use Rattle.wg_tokens.specs.declared.token.Token.{Token}
 use Rattle.wg_tree.specs.declared.expr.Expr.{Expr}
 use Rattle.wg_tree.specs.declared.expr.Expr.TheVariants as e
 use Rattle.wg_grammar.specs.Reading.{Outcome, Reader, Got, Wrong, Deep, and_then, ◌>>=◌, pure, sees, begins, look}

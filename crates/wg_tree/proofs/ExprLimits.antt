@@ -1,6 +1,6 @@
 -- What is spelled as an expression, however deep, is read, or reading stops at the first token that is too deep.
 use Rattle.std.proofs.Common.{◌≡◌, ℕ, zero, suc, ◌+◌, ◌≤◌, true, false, List, ◌∷◌, refl, sym, ◌∙◌, ap, inl, inr, arith}
-use Rattle.wg_tree.specs.declared.token.Token.{Token}
+use Rattle.wg_tokens.specs.declared.token.Token.{Token}
 use Rattle.wg_tree.specs.declared.expr.Expr.{Expr}
 use Rattle.wg_grammar.specs.Spans.{Span}
 use Rattle.wg_grammar.specs.Reading.{Reader, sees}

@@ -1,6 +1,6 @@
 -- An operand is read exactly, with its casts.
 use Rattle.std.proofs.Common.{◌≡◌, ℕ, suc, Bool, true, false, List, [], ◌∷◌, refl, sym, ◌∙◌, ap, subst, inl, inr, ◌⊎◌}
-use Rattle.wg_tree.specs.declared.token.Token.{Token}
+use Rattle.wg_tokens.specs.declared.token.Token.{Token}
 use Rattle.wg_tree.specs.declared.expr.Expr.{Expr}
 use Rattle.wg_tree.specs.declared.expr.Expr.TheVariants as e
 use Rattle.wg_tree.specs.declared.expr.Form.{Form}

@@ -20,9 +20,3 @@ pub mod TextExact
 pub mod TextLimits
 pub mod TextFine
 pub mod TextFaults
-pub mod NamedValues
-pub mod ConstChains
-pub mod Spans
-pub mod Earlier
-pub mod Weighing
-pub mod Integers

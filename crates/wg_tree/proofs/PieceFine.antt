@@ -1,6 +1,6 @@
 -- What is read up to the body of a statement is spelled so, and what was read before a fault can be completed.
 use Rattle.std.proofs.Common.{◌≡◌, ℕ, ◌+◌, ◌≤◌, true, List, [], ◌∷◌, refl, inl, inr, arith}
-use Rattle.wg_tree.specs.declared.token.Token.{Token}
+use Rattle.wg_tokens.specs.declared.token.Token.{Token}
 use Rattle.wg_grammar.specs.Spans.{Span}
 use Rattle.wg_grammar.specs.Reading.{begins, look}
 use Rattle.wg_grammar.specs.Parts.{Part, member, first, reads, spells, decides}

@@ -1,6 +1,6 @@
 -- What is spelled up to the body of a statement, however deep, is read, or reading stops at the first token that is too deep.
 use Rattle.std.proofs.Common.{◌≡◌, ℕ, ◌+◌, ◌≤◌, true, false, List, refl, inl, inr, arith}
-use Rattle.wg_tree.specs.declared.token.Token.{Token}
+use Rattle.wg_tokens.specs.declared.token.Token.{Token}
 use Rattle.wg_tree.specs.declared.expr.Expr.{Expr}
 use Rattle.wg_grammar.specs.Parts.{Part, nullable, reads, spells, decides, covered, stops}
 use Rattle.wg_grammar.proofs.Far.{far_on, far_off}

@@ -1,6 +1,6 @@
 -- A text is read exactly, whatever the room, so no list of tokens spells two trees.
 use Rattle.std.proofs.Common.{◌≡◌, ℕ, ◌+◌, ◌≤◌, List, [], refl, sym, ◌∙◌, ap, arith}
-use Rattle.wg_tree.specs.declared.token.Token.{Token}
+use Rattle.wg_tokens.specs.declared.token.Token.{Token}
 use Rattle.wg_tree.specs.declared.item.Source.{Source}
 use Rattle.wg_grammar.specs.Reading.{Outcome, Got, Wrong, Deep}
 use Rattle.wg_grammar.specs.Depths.{plain}

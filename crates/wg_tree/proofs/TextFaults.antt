@@ -1,7 +1,7 @@
 -- A text is read just where it is spelled, and to the first token at which it fails.
 use Rattle.std.proofs.Common.{◌≡◌, ℕ, ◌+◌, ◌≤◌, List, [], ◌∷◌, ◌++◌, length, refl, sym, ◌∙◌, ap, subst, append_assoc, length-append, arith, inl, inr}
 use Rattle.std.proofs.lemmas.List.{append-nil, map-append, length-map}
-use Rattle.wg_tree.specs.declared.token.Token.{Token}
+use Rattle.wg_tokens.specs.declared.token.Token.{Token}
 use Rattle.wg_tree.specs.declared.item.Source.{Source}
 use Rattle.wg_grammar.specs.Reading.{Outcome, Got, Wrong, Deep}
 use Rattle.wg_grammar.specs.Depths.{plain, Shallow}

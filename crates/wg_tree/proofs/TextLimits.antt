@@ -1,6 +1,6 @@
 -- What is spelled as a text, however deep, is read, or reading stops at the first token that is too deep.
 use Rattle.std.proofs.Common.{◌≡◌, ℕ, zero, suc, ◌≤◌, false, List, [], ◌∷◌, ◌++◌, refl, sym, ◌∙◌, ap, inl, inr, ◌⊎◌, arith}
-use Rattle.wg_tree.specs.declared.token.Token.{Token}
+use Rattle.wg_tokens.specs.declared.token.Token.{Token}
 use Rattle.wg_tree.specs.declared.item.Source.{Source}
 use Rattle.wg_grammar.specs.Reading.{Outcome, Got, Deep, sees}
 use Rattle.wg_grammar.specs.Depths.{plain, Shallow}

@@ -2,11 +2,11 @@
 use Rattle.std.specs.Prelude.{ℕ, zero, suc, ◌==◌, true, false, if◌then◌else◌, List, [], ◌∷◌, map, Option, Some, None}
 use Prim.Native.String.{String}
 use Rattle.wg_words.specs.declared.place.Place.{Place}
-use Rattle.wg_tree.specs.declared.token.Token.{Token}
-use Rattle.wg_tree.specs.declared.token.TokenKind.{TokenKind}
-use Rattle.wg_tree.specs.declared.token.TokenKind.TheVariants as kind
-use Rattle.wg_tree.specs.declared.keyword.Keyword.{Keyword}
-use Rattle.wg_tree.specs.declared.keyword.Keyword.TheVariants as k
+use Rattle.wg_tokens.specs.declared.token.Token.{Token}
+use Rattle.wg_tokens.specs.declared.token.TokenKind.{TokenKind}
+use Rattle.wg_tokens.specs.declared.token.TokenKind.TheVariants as kind
+use Rattle.wg_tokens.specs.declared.keyword.Keyword.{Keyword}
+use Rattle.wg_tokens.specs.declared.keyword.Keyword.TheVariants as k
 use Rattle.wg_tree.specs.declared.expr.Named.{Named}
 use Rattle.wg_tree.specs.declared.expr.Scalar.TheVariants as scalar
 use Rattle.wg_tree.specs.declared.expr.ValueType.{ValueType}

@@ -1,6 +1,6 @@
 -- What is answered for a list of tokens: its tree, or the first token at which it fails, and how. Own.
 use Rattle.std.specs.Prelude.{◌≡◌, ℕ, List, [], ◌∷◌, ◌++◌}
-use Rattle.wg_tree.specs.declared.token.Token.{Token}
+use Rattle.wg_tokens.specs.declared.token.Token.{Token}
 use Rattle.wg_tree.specs.declared.item.Source.{Source}
 use Rattle.wg_grammar.specs.Depths.{plain, Shallow}
 use Rattle.wg_tree.specs.Depths.{Depth, Within}

@@ -1,6 +1,6 @@
 -- Expressions as they are read, from left to right with up to four tokens of preview.
 use Rattle.std.specs.Prelude.{ℕ, zero, suc, Bool, true, false, List, [], ◌∷◌, ◌++◌}
-use Rattle.wg_tree.specs.declared.token.Token.{Token}
+use Rattle.wg_tokens.specs.declared.token.Token.{Token}
 use Rattle.wg_tree.specs.declared.expr.Expr.{Expr}
 use Rattle.wg_grammar.specs.Reading.{Reader, too_deep, look}
 use Rattle.wg_grammar.specs.Parts.{Part, Edges, Readers, of, first, reads}

@@ -1,6 +1,6 @@
 -- A text as it is read, from left to right.
 use Rattle.std.specs.Prelude.{ℕ, true, List, []}
-use Rattle.wg_tree.specs.declared.token.Token.{Token}
+use Rattle.wg_tokens.specs.declared.token.Token.{Token}
 use Rattle.wg_tree.specs.declared.item.Source.{Source}
 use Rattle.wg_grammar.specs.Parts.{Edges, Readers, reads}
 use Rattle.wg_tree.specs.Symbols.{class}

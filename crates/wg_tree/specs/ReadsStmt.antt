@@ -1,8 +1,8 @@
 -- Statements as they are read, from left to right with two tokens of preview.
 use Rattle.std.specs.Prelude.{ℕ, zero, suc, Bool, true, List, [], ◌∷◌, ◌++◌, Some, None}
 use Rattle.wg_words.specs.declared.place.Place.{Place}
-use Rattle.wg_tree.specs.declared.token.Token.{Token}
-use Rattle.wg_tree.specs.declared.keyword.Keyword.TheVariants as k
+use Rattle.wg_tokens.specs.declared.token.Token.{Token}
+use Rattle.wg_tokens.specs.declared.keyword.Keyword.TheVariants as k
 use Rattle.wg_tree.specs.declared.stmt.Stmt.{Stmt}
 use Rattle.wg_tree.specs.declared.stmt.Stmt.TheVariants as s
 use Rattle.wg_grammar.specs.Reading.{◌>>=◌, pure, take_if, too_deep, by_next, look}

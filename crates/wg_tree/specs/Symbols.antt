@@ -2,12 +2,12 @@
 use Rattle.std.specs.Prelude.{ℕ, ◌+◌, ◌*◌, ◌==◌, if◌then◌else◌, List, [], ◌∷◌, map, fold, codes, Option, Some, None}
 use Prim.Native.String.{String}
 use Rattle.std.specs.Str.{bytes_eq}
-use Rattle.wg_tree.specs.declared.keyword.Keyword.{Keyword}
-use Rattle.wg_tree.specs.declared.keyword.Keyword.TheVariants as k
-use Rattle.wg_tree.specs.declared.keyword.TheConstants.{KEYWORDS}
-use Rattle.wg_tree.specs.declared.token.Token.{Token}
-use Rattle.wg_tree.specs.declared.token.TokenKind.{TokenKind}
-use Rattle.wg_tree.specs.declared.token.TokenKind.TheVariants as kind
+use Rattle.wg_tokens.specs.declared.keyword.Keyword.{Keyword}
+use Rattle.wg_tokens.specs.declared.keyword.Keyword.TheVariants as k
+use Rattle.wg_tokens.specs.declared.keyword.TheConstants.{KEYWORDS}
+use Rattle.wg_tokens.specs.declared.token.Token.{Token}
+use Rattle.wg_tokens.specs.declared.token.TokenKind.{TokenKind}
+use Rattle.wg_tokens.specs.declared.token.TokenKind.TheVariants as kind
 
 -- a mark's bytes as a number in base 256, the first byte the highest
 abbrev pub mark_code : String → ℕ

@@ -1,5 +1,5 @@
 ghost use Rattle.std.specs.Prelude.{◌≡◌, ℕ, List, [], ◌∷◌};
-ghost use Rattle.wg_tree.specs.declared.token.Token.{Token};
+ghost use Rattle.wg_tokens.specs.declared.token.Token.{Token};
 ghost use Rattle.wg_tree.specs.declared.item.Source.{Source};
 ghost use Rattle.wg_tree.specs.Depths.{Depth};
 ghost use Rattle.wg_tree.specs.GrammarItem.{Spells};

@@ -24,8 +24,8 @@ use Rattle.wg_typing.specs.TypingFunctionCall.{passed_place, passed_as, passed_a
 use Rattle.wg_typing.specs.TypingInterlocked.{is_fixed}
 use Rattle.wg_tree.specs.declared.item.Direction.{Direction}
 use Rattle.wg_tree.specs.declared.item.Direction.TheVariants as direction
-use Rattle.wg_tree.specs.declared.types.TypeTree.{TypeTree}
-use Rattle.wg_tree.specs.declared.typed_expr.TypedExpr.{TypedExpr}
+use Rattle.wg_typed.specs.declared.types.TypeTree.{TypeTree}
+use Rattle.wg_typed.specs.declared.typed_expr.TypedExpr.{TypedExpr}
 use Rattle.wg_typing.specs.declared.scope.FormalParameter.{FormalParameter}
 use Rattle.wg_typing.proofs.Barriers.{AllFlags, barrier_stands, has_barrier_of}
 use Rattle.wg_typing.proofs.Facts.{Empty, Has, both, empty_if, empty_left, empty_right, has_then, has_where, is_false, not_false}

@@ -4,8 +4,8 @@ use Rattle.std.specs.Prelude.{nat_lt}
 use Rattle.wg_words.specs.declared.place.Place.{Place}
 use Rattle.wg_typing.specs.Maybe.{then}
 use Rattle.wg_typing.specs.Conversions.{numbers, type_of, fits, is_number, number_type, uint_type, truth_type, chosen}
-use Rattle.wg_tree.specs.Constants.{Known, Right, expr_value, form_value, link_value, const_value, applied_value}
-use Rattle.wg_tree.specs.Constants.{chain_value as const_chain}
+use Rattle.wg_typed.specs.Constants.{Known, Right, expr_value, form_value, link_value, const_value, applied_value}
+use Rattle.wg_typed.specs.Constants.{chain_value as const_chain}
 use Rattle.wg_typing.specs.Scope.{Context, as_const, look, known_names, constant_if}
 use Rattle.wg_typing.specs.Layers.{FormLayer, LinkLayer, Part, TypedPart, typed_at, typed_part, convert, fit}
 use Rattle.wg_typing.specs.TypingName.{const_name}
@@ -18,9 +18,9 @@ use Rattle.wg_tree.specs.declared.expr.Expr.TheOpen.{Expr-F}
 use Rattle.wg_tree.specs.declared.expr.Form.{Form, fold-Form}
 use Rattle.wg_tree.specs.declared.expr.Scalar.TheVariants as scalar
 use Rattle.wg_tree.specs.declared.expr.Link.{Link, fold-Link}
-use Rattle.wg_tree.specs.declared.types.ConstValue.{ConstValue}
-use Rattle.wg_tree.specs.declared.types.TypeTree.{TypeTree}
-use Rattle.wg_tree.specs.declared.types.TypeTree.TheVariants as type
+use Rattle.wg_typed.specs.declared.types.ConstValue.{ConstValue}
+use Rattle.wg_typed.specs.declared.types.TypeTree.{TypeTree}
+use Rattle.wg_typed.specs.declared.types.TypeTree.TheVariants as type
 use Rattle.wg_typing.specs.declared.scope.Meant.{Meant}
 use Rattle.wg_typing.specs.declared.scope.Meant.TheVariants as meant
 use Rattle.wg_typing.specs.declared.scope.Value.{Value}

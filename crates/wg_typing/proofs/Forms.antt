@@ -14,9 +14,9 @@ use Rattle.wg_typing.specs.RulesUnknownName.{unknown_form}
 use Rattle.wg_typing.specs.Scope.{Context}
 use Rattle.wg_typing.specs.TypingForms.{Reached, Along, at_typed, at_other, begin, finish, struct_field, picked, components_in, member_of, indexed, method_on, form_on, forms_on, over_forms}
 use Rattle.wg_typing.specs.TypingObjects.{Method, method_of, method_value, takes, element_value, has_elements}
-use Rattle.wg_tree.specs.declared.types.TypeTree.{TypeTree}
-use Rattle.wg_tree.specs.declared.types.TypeTree.TheVariants as type
-use Rattle.wg_tree.specs.declared.typed.TypedStruct.{TypedStruct}
+use Rattle.wg_typed.specs.declared.types.TypeTree.{TypeTree}
+use Rattle.wg_typed.specs.declared.types.TypeTree.TheVariants as type
+use Rattle.wg_typed.specs.declared.typed.TypedStruct.{TypedStruct}
 use Rattle.wg_typing.specs.declared.scope.Act.{Act}
 use Rattle.wg_typing.specs.declared.scope.Act.TheVariants as act
 use Rattle.wg_typing.specs.declared.scope.Object.{Object}

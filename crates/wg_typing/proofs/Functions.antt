@@ -20,9 +20,9 @@ use Rattle.wg_tree.specs.declared.item.ParameterType.{ParameterType}
 use Rattle.wg_tree.specs.declared.item.ParameterType.TheVariants as parameter_type
 use Rattle.wg_tree.specs.declared.item.ResultType.{ResultType}
 use Rattle.wg_tree.specs.declared.item.ResultType.TheVariants as result_type
-use Rattle.wg_tree.specs.declared.types.TypeTree.{TypeTree}
-use Rattle.wg_tree.specs.declared.typed.TypedParameter.{TypedParameter}
-use Rattle.wg_tree.specs.declared.typed.TypedParameterType.{TypedParameterType}
+use Rattle.wg_typed.specs.declared.types.TypeTree.{TypeTree}
+use Rattle.wg_typed.specs.declared.typed.TypedParameter.{TypedParameter}
+use Rattle.wg_typed.specs.declared.typed.TypedParameterType.{TypedParameterType}
 use Rattle.wg_typing.specs.declared.scope.Meant.{Meant}
 use Rattle.wg_typing.specs.declared.scope.Meant.TheVariants as meant
 use Rattle.wg_typing.proofs.Declarations.{AllHave, Declares, Fine, IsSure, has_record, may_stand}

@@ -11,11 +11,11 @@ use Rattle.wg_typing.specs.RulesShared.{failing, maybe_failing, unfit}
 use Rattle.wg_typing.specs.TypingInterlocked.{Operands, maybe_old, with_old, compared, compared_with_old, operands, is_fixed, is_memory, word_place, memory_place, raw_type, interlocked, interlocked_at, interlocked_raw}
 use Rattle.wg_typing.specs.TypingObjects.{raw_takes}
 use Rattle.wg_typing.specs.TypingOperators.{typed_of}
-use Rattle.wg_tree.specs.declared.types.TypeTree.{TypeTree}
-use Rattle.wg_tree.specs.declared.typed_stmt.InterlockedForm.{InterlockedForm}
-use Rattle.wg_tree.specs.declared.typed_stmt.InterlockedForm.TheVariants as form
-use Rattle.wg_tree.specs.declared.typed_stmt.Destination.{Destination}
-use Rattle.wg_tree.specs.declared.typed_stmt.Destination.TheVariants as destination
+use Rattle.wg_typed.specs.declared.types.TypeTree.{TypeTree}
+use Rattle.wg_typed.specs.declared.typed_stmt.InterlockedForm.{InterlockedForm}
+use Rattle.wg_typed.specs.declared.typed_stmt.InterlockedForm.TheVariants as form
+use Rattle.wg_typed.specs.declared.typed_stmt.Destination.{Destination}
+use Rattle.wg_typed.specs.declared.typed_stmt.Destination.TheVariants as destination
 use Rattle.wg_typing.proofs.Facts.{Empty, Has, empty_left, empty_right, first_only, has_is_some, has_then, has_through, has_where, some_of, some_value, through_where, where_is}
 use Rattle.wg_typing.proofs.Parts.{AllTyped, IsTyped, has_fit, passes_test}
 

@@ -13,9 +13,9 @@ use Rattle.wg_typing.specs.RulesMismatchExpr.{unfit_arguments}
 use Rattle.wg_typing.specs.RulesNotAssignable.{fixed_method}
 use Rattle.wg_typing.specs.RulesShared.{unfit, unfit_all}
 use Rattle.wg_typing.specs.TypingObjects.{Method, load, store, interlocked, get, count, request, increment, is_valid, complete, methods, method_of, takes, method_value, element_value, has_elements}
-use Rattle.wg_tree.specs.declared.types.TypeTree.{TypeTree}
-use Rattle.wg_tree.specs.declared.typed.TypedBufferType.TheVariants as buffer_type
-use Rattle.wg_tree.specs.declared.typed_expr.TypedExpr.{TypedExpr}
+use Rattle.wg_typed.specs.declared.types.TypeTree.{TypeTree}
+use Rattle.wg_typed.specs.declared.typed.TypedBufferType.TheVariants as buffer_type
+use Rattle.wg_typed.specs.declared.typed_expr.TypedExpr.{TypedExpr}
 use Rattle.wg_typing.specs.declared.scope.Object.{Object}
 use Rattle.wg_typing.specs.declared.scope.Object.TheVariants as object
 use Rattle.wg_typing.specs.declared.scope.Value.{Value}

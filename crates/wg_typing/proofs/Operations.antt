@@ -12,7 +12,7 @@ use Rattle.wg_typing.specs.TypingOperators.{prefix_type, prefix_value, cast_valu
 use Rattle.wg_tree.specs.declared.expr.BinaryOperator.{BinaryOperator}
 use Rattle.wg_tree.specs.declared.expr.PrefixOperator.{PrefixOperator}
 use Rattle.wg_tree.specs.declared.expr.PrefixOperator.TheVariants as prefix
-use Rattle.wg_tree.specs.declared.types.TypeTree.{TypeTree}
+use Rattle.wg_typed.specs.declared.types.TypeTree.{TypeTree}
 use Rattle.wg_typing.proofs.Facts.{Empty, Has, both, empty_left, empty_right, has_is_none, has_then, has_where, is_false, some_of, through_where}
 use Rattle.wg_typing.proofs.Parts.{AllTyped, IsTyped, has_convert, has_fit, passes_test}
 use Rattle.wg_typing.proofs.Types.{chosen_fits, fits_sized, has_numbers, operation_on_fits, size_same}

@@ -5,7 +5,7 @@ use Rattle.wg_typing.specs.Conversions.{fits}
 use Rattle.wg_typing.specs.Layers.{Part, TypedPart, typed_at, typed_part, all_typed_parts, convert, fit, fit_all}
 use Rattle.wg_typing.specs.RulesShared.{is_typed, all_are_typed, where_typed, no_value_at, no_value, act_at, each_part, failing, unfit, unfit_all}
 use Rattle.wg_typing.specs.TypingActs.{is_output_act, is_syncing}
-use Rattle.wg_tree.specs.declared.types.TypeTree.{TypeTree}
+use Rattle.wg_typed.specs.declared.types.TypeTree.{TypeTree}
 use Rattle.wg_typing.specs.declared.scope.Act.TheVariants as act
 use Rattle.wg_typing.specs.declared.scope.Value.{Value}
 use Rattle.wg_typing.specs.declared.scope.Value.TheVariants as value

@@ -13,8 +13,8 @@ use Rattle.wg_typing.specs.TypingConstructor.{component_count, components, const
 use Rattle.wg_typing.specs.TypingIntrinsic.{Reckons, in_common, in_uint, to_one_truth, in_truths, choosing, reckons, arity_of, argument_suits, all_suit, size_of_all, Signature, chosen_of_size, signature, signature_on, all_numbers, convert_all, intrinsic_value}
 use Rattle.wg_tree.specs.declared.expr.ValueType.{ValueType}
 use Rattle.wg_tree.specs.declared.expr.ValueType.TheVariants as value_type
-use Rattle.wg_tree.specs.declared.typed_expr.Intrinsic.{Intrinsic}
-use Rattle.wg_tree.specs.declared.typed_expr.TypedKind.TheVariants as tree
+use Rattle.wg_typed.specs.declared.typed_expr.Intrinsic.{Intrinsic}
+use Rattle.wg_typed.specs.declared.typed_expr.TypedKind.TheVariants as tree
 use Rattle.wg_typing.proofs.Facts.{Empty, Has, both, empty_if, empty_left, empty_right, has_is_none, has_then, has_through, is_false, not_false, some_value, then_some, through_where}
 use Rattle.wg_typing.proofs.Parts.{AllTyped, has_all_parts, has_convert, passes_test}
 use Rattle.wg_typing.proofs.Types.{common_fits, fits_sized, has_numbers, size_same, size_through}

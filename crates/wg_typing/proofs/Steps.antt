@@ -23,7 +23,7 @@ use Rattle.wg_tree.specs.declared.expr.BinaryOperator.{BinaryOperator}
 use Rattle.wg_tree.specs.declared.stmt.Step.{Step}
 use Rattle.wg_tree.specs.declared.stmt.Step.TheVariants as step
 use Rattle.wg_tree.specs.declared.stmt.StepOperator.{StepOperator}
-use Rattle.wg_tree.specs.declared.typed_stmt.TypedStep.{TypedStep}
+use Rattle.wg_typed.specs.declared.typed_stmt.TypedStep.{TypedStep}
 use Rattle.wg_typing.specs.declared.scope.Act.TheVariants as act
 use Rattle.wg_typing.specs.declared.scope.Value.{Value}
 use Rattle.wg_typing.specs.declared.scope.Value.TheVariants as value

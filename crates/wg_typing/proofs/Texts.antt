@@ -1,7 +1,7 @@
 -- A text in which no rule is broken has its typed form.
 use Rattle.std.proofs.Common.{◌≡◌, ℕ, Bool, true, false, List, [], ◌∷◌, length, map, Option, Some, None, refl, sym, subst}
 use Rattle.std.specs.Prelude.{nat_le}
-use Rattle.wg_tree.specs.Constants.{const_value}
+use Rattle.wg_typed.specs.Constants.{const_value}
 use Rattle.wg_typing.specs.Conversions.{fits, is_number}
 use Rattle.wg_typing.specs.Layers.{Part, TypedPart, typed_part, fit}
 use Rattle.wg_typing.specs.Maybe.{where_true, all_of}
@@ -25,12 +25,12 @@ use Rattle.wg_tree.specs.declared.item.Field.{Field}
 use Rattle.wg_tree.specs.declared.item.Item.{Item}
 use Rattle.wg_tree.specs.declared.item.Item.TheVariants as item
 use Rattle.wg_tree.specs.declared.item.Source.{Source}
-use Rattle.wg_tree.specs.declared.types.ConstValue.{ConstValue}
-use Rattle.wg_tree.specs.declared.types.TypeTree.{TypeTree}
-use Rattle.wg_tree.specs.declared.types.TypeTree.TheVariants as type
-use Rattle.wg_tree.specs.declared.typed.Typed.{Typed}
-use Rattle.wg_tree.specs.declared.typed.TypedBufferType.{TypedBufferType}
-use Rattle.wg_tree.specs.declared.typed.TypedStruct.{TypedStruct}
+use Rattle.wg_typed.specs.declared.types.ConstValue.{ConstValue}
+use Rattle.wg_typed.specs.declared.types.TypeTree.{TypeTree}
+use Rattle.wg_typed.specs.declared.types.TypeTree.TheVariants as type
+use Rattle.wg_typed.specs.declared.typed.Typed.{Typed}
+use Rattle.wg_typed.specs.declared.typed.TypedBufferType.{TypedBufferType}
+use Rattle.wg_typed.specs.declared.typed.TypedStruct.{TypedStruct}
 use Rattle.wg_typing.proofs.Constants.{const_number, fits_number, typed_number}
 use Rattle.wg_typing.proofs.Declarations.{AllHave, have_push}
 use Rattle.wg_typing.proofs.Facts.{Has, has_then, has_where, is_false, some_of, then_some}

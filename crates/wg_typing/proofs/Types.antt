@@ -6,8 +6,8 @@ use Rattle.wg_typing.specs.Conversions.{Numbers, numbers, sized, type_of, same_t
 use Rattle.wg_typing.specs.Maybe.{where_true}
 use Rattle.wg_tree.specs.declared.expr.Scalar.{Scalar}
 use Rattle.wg_tree.specs.declared.expr.BinaryOperator.{BinaryOperator}
-use Rattle.wg_tree.specs.declared.types.TypeTree.{TypeTree}
-use Rattle.wg_tree.specs.declared.types.TypeTree.TheVariants as type
+use Rattle.wg_typed.specs.declared.types.TypeTree.{TypeTree}
+use Rattle.wg_typed.specs.declared.types.TypeTree.TheVariants as type
 use Rattle.wg_typing.proofs.Facts.{Has, or_right, some_value, then_some}
 
 -- a number type has its numbers

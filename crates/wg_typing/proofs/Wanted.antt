@@ -3,10 +3,10 @@ use Rattle.std.proofs.Common.{◌≡◌, ℕ, true, false, List, [], Option, Som
 use Rattle.std.specs.Prelude.{nat_lt, nat_le}
 use Rattle.std.proofs.lemmas.Grind.{common_steps}
 use Rattle.wg_typing.specs.AttributeArguments.{is_positive}
-use Rattle.wg_tree.specs.Constants.{const_value}
+use Rattle.wg_typed.specs.Constants.{const_value}
 use Rattle.wg_typing.specs.Conversions.{uint_type, element_of, of_value_type}
 use Rattle.wg_typing.specs.Layers.{Part, typed_part}
-use Rattle.wg_tree.specs.Layout.{words_of}
+use Rattle.wg_typed.specs.Layout.{words_of}
 use Rattle.wg_typing.specs.RulesLimit.{size_below}
 use Rattle.wg_typing.specs.RulesMismatch.{unfit_wanted, unfit_const}
 use Rattle.wg_typing.specs.RulesShared.{is_typed, no_value}
@@ -21,8 +21,8 @@ use Rattle.wg_tree.specs.declared.expr.TypeName.{TypeName}
 use Rattle.wg_tree.specs.declared.expr.TypeName.TheVariants as type_name
 use Rattle.wg_tree.specs.declared.expr.ValueType.{ValueType}
 use Rattle.wg_tree.specs.declared.expr.ValueType.TheVariants as value_type
-use Rattle.wg_tree.specs.declared.types.ConstValue.{ConstValue}
-use Rattle.wg_tree.specs.declared.types.TypeTree.{TypeTree}
+use Rattle.wg_typed.specs.declared.types.ConstValue.{ConstValue}
+use Rattle.wg_typed.specs.declared.types.TypeTree.{TypeTree}
 use Rattle.wg_typing.specs.declared.scope.Meant.{Meant}
 use Rattle.wg_typing.specs.declared.scope.Meant.TheVariants as meant
 use Rattle.wg_typing.proofs.Exprs.{has_value}

@@ -5,11 +5,11 @@ use Prim.Native.String.{String}
 use Rattle.std.specs.Str.{bytes_eq}
 use Rattle.wg_typing.specs.Maybe.{◌>>=◌, where_true}
 use Rattle.wg_typing.specs.Named.{at_name, is_called}
-use Rattle.wg_tree.specs.declared.types.ConstValue.{ConstValue}
-use Rattle.wg_tree.specs.declared.typed_stmt.ArgumentValue.{ArgumentValue}
-use Rattle.wg_tree.specs.declared.typed_stmt.ArgumentValue.TheVariants as argument
-use Rattle.wg_tree.specs.declared.typed_stmt.TypedArgument.{TypedArgument}
-use Rattle.wg_tree.specs.declared.typed_stmt.TypedAttribute.{TypedAttribute}
+use Rattle.wg_typed.specs.declared.types.ConstValue.{ConstValue}
+use Rattle.wg_typed.specs.declared.typed_stmt.ArgumentValue.{ArgumentValue}
+use Rattle.wg_typed.specs.declared.typed_stmt.ArgumentValue.TheVariants as argument
+use Rattle.wg_typed.specs.declared.typed_stmt.TypedArgument.{TypedArgument}
+use Rattle.wg_typed.specs.declared.typed_stmt.TypedAttribute.{TypedAttribute}
 
 abbrev pub is_text : String → ArgumentValue → Bool
 is_text word (argument.Number v) = false

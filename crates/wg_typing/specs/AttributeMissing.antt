@@ -6,8 +6,8 @@ use Rattle.wg_typing.specs.AttributeArguments.{mode_of, has, in_mode, is_broadca
 use Rattle.wg_typing.specs.AttributeSites.{Site, AtAttribute, AtNode, AtInput, AtOutput, AtValue}
 use Rattle.wg_typing.specs.AttributeSystem.{is_grid_field, system_of}
 use Rattle.wg_typing.specs.SiteTree.{at_if}
-use Rattle.wg_tree.specs.declared.typed.TypedField.{TypedField}
-use Rattle.wg_tree.specs.declared.typed_stmt.TypedAttribute.{TypedAttribute}
+use Rattle.wg_typed.specs.declared.typed.TypedField.{TypedField}
+use Rattle.wg_typed.specs.declared.typed_stmt.TypedAttribute.{TypedAttribute}
 
 -- what a node lacks: `NodeLaunch`; `NumThreads` but for thread launch; a grid for broadcasting launch, and the field for a greatest grid
 abbrev pub node_lacks : List TypedAttribute → List TypedField → Bool

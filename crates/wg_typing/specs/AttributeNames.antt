@@ -3,7 +3,7 @@ use Rattle.std.specs.Prelude.{ℕ, Bool, true, false, if◌then◌else◌, List,
 use Prim.Native.String.{String}
 use Rattle.wg_typing.specs.Named.{is_called}
 use Rattle.wg_typing.specs.AttributeSites.{Position, on_struct, on_node, on_plain, on_input, on_output, on_output_array, on_value, on_branch}
-use Rattle.wg_tree.specs.declared.typed_stmt.TypedAttribute.{TypedAttribute}
+use Rattle.wg_typed.specs.declared.typed_stmt.TypedAttribute.{TypedAttribute}
 
 pub data Name : Type 0 where
   shader : Name

@@ -6,17 +6,17 @@ use Rattle.wg_typing.specs.SiteTree.{Sites, nowhere, only, ◌&◌, all_sites}
 use Rattle.wg_typing.specs.AttributeArguments.{Mode, mode_of, is_entry}
 use Rattle.wg_tree.specs.declared.stmt.ObjectWord.{ObjectWord}
 use Rattle.wg_tree.specs.declared.stmt.ObjectWord.TheVariants as object
-use Rattle.wg_tree.specs.declared.typed.Typed.{Typed}
-use Rattle.wg_tree.specs.declared.typed.TypedField.{TypedField}
-use Rattle.wg_tree.specs.declared.typed.TypedFunction.{TypedFunction}
-use Rattle.wg_tree.specs.declared.typed.TypedParameter.{TypedParameter}
-use Rattle.wg_tree.specs.declared.typed.TypedParameterType.{TypedParameterType}
-use Rattle.wg_tree.specs.declared.typed.TypedParameterType.TheVariants as parameter_type
-use Rattle.wg_tree.specs.declared.typed.TypedStruct.{TypedStruct}
-use Rattle.wg_tree.specs.declared.typed_stmt.TypedAttribute.{TypedAttribute}
-use Rattle.wg_tree.specs.declared.typed_stmt.TypedStmt.{TypedStmt}
-use Rattle.wg_tree.specs.declared.typed_stmt.TypedStmt.TheFolds.{fold-TypedStmt}
-use Rattle.wg_tree.specs.declared.typed_stmt.TypedStmt.TheOpen.{TypedStmt-F}
+use Rattle.wg_typed.specs.declared.typed.Typed.{Typed}
+use Rattle.wg_typed.specs.declared.typed.TypedField.{TypedField}
+use Rattle.wg_typed.specs.declared.typed.TypedFunction.{TypedFunction}
+use Rattle.wg_typed.specs.declared.typed.TypedParameter.{TypedParameter}
+use Rattle.wg_typed.specs.declared.typed.TypedParameterType.{TypedParameterType}
+use Rattle.wg_typed.specs.declared.typed.TypedParameterType.TheVariants as parameter_type
+use Rattle.wg_typed.specs.declared.typed.TypedStruct.{TypedStruct}
+use Rattle.wg_typed.specs.declared.typed_stmt.TypedAttribute.{TypedAttribute}
+use Rattle.wg_typed.specs.declared.typed_stmt.TypedStmt.{TypedStmt}
+use Rattle.wg_typed.specs.declared.typed_stmt.TypedStmt.TheFolds.{fold-TypedStmt}
+use Rattle.wg_typed.specs.declared.typed_stmt.TypedStmt.TheOpen.{TypedStmt-F}
 
 -- the parameters of a node, and the number of the one that is meant
 pub record Own : Type 0 where

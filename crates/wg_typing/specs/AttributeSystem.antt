@@ -9,12 +9,12 @@ use Rattle.wg_tree.specs.declared.expr.Scalar.TheVariants as scalar
 use Rattle.wg_tree.specs.declared.item.Directed.{Directed}
 use Rattle.wg_tree.specs.declared.item.Direction.{Direction}
 use Rattle.wg_tree.specs.declared.item.Direction.TheVariants as direction
-use Rattle.wg_tree.specs.declared.types.TypeTree.{TypeTree}
-use Rattle.wg_tree.specs.declared.types.TypeTree.TheVariants as type
-use Rattle.wg_tree.specs.declared.typed.TypedField.{TypedField}
-use Rattle.wg_tree.specs.declared.typed.TypedParameter.{TypedParameter}
-use Rattle.wg_tree.specs.declared.typed.TypedParameterType.{TypedParameterType}
-use Rattle.wg_tree.specs.declared.typed.TypedParameterType.TheVariants as parameter_type
+use Rattle.wg_typed.specs.declared.types.TypeTree.{TypeTree}
+use Rattle.wg_typed.specs.declared.types.TypeTree.TheVariants as type
+use Rattle.wg_typed.specs.declared.typed.TypedField.{TypedField}
+use Rattle.wg_typed.specs.declared.typed.TypedParameter.{TypedParameter}
+use Rattle.wg_typed.specs.declared.typed.TypedParameterType.{TypedParameterType}
+use Rattle.wg_typed.specs.declared.typed.TypedParameterType.TheVariants as parameter_type
 
 -- `uint`, `uint2` or `uint3`
 abbrev pub is_uint_up_to_3 : TypeTree → Bool

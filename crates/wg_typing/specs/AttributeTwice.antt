@@ -7,7 +7,7 @@ use Rattle.wg_typing.specs.Named.{small}
 use Rattle.wg_typing.specs.AttributeSites.{Site, AtAttribute, AtNode, AtInput, AtOutput, AtValue, Position}
 use Rattle.wg_typing.specs.AttributeNames.{Name, dispatch_grid, max_dispatch_grid, max_records, max_records_shared_with, standing}
 use Rattle.wg_typing.specs.SiteTree.{at_if}
-use Rattle.wg_tree.specs.declared.typed_stmt.TypedAttribute.{TypedAttribute}
+use Rattle.wg_typed.specs.declared.typed_stmt.TypedAttribute.{TypedAttribute}
 
 abbrev pub are_rivals : Name → Name → Bool
 are_rivals dispatch_grid max_dispatch_grid = true

@@ -9,7 +9,7 @@ use Rattle.wg_typing.specs.AttributeMissing.{missing_at}
 use Rattle.wg_typing.specs.AttributeTwice.{twice_at}
 use Rattle.wg_typing.specs.AttributeRange.{range_at}
 use Rattle.wg_typing.specs.AttributeMode.{wrong_mode_at}
-use Rattle.wg_tree.specs.declared.typed.Typed.{Typed}
+use Rattle.wg_typed.specs.declared.typed.Typed.{Typed}
 
 pub data Rule : Type 0 where
   Unknown : Rule

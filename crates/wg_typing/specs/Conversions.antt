@@ -8,10 +8,10 @@ use Rattle.wg_tree.specs.declared.expr.ValueType.{ValueType}
 use Rattle.wg_tree.specs.declared.expr.ValueType.TheVariants as value_type
 use Rattle.wg_tree.specs.declared.expr.BinaryOperator.{BinaryOperator}
 use Rattle.wg_tree.specs.declared.expr.BinaryOperator.TheVariants as binary
-use Rattle.wg_tree.specs.declared.types.ElementType.{ElementType}
-use Rattle.wg_tree.specs.declared.types.ElementType.TheVariants as element
-use Rattle.wg_tree.specs.declared.types.TypeTree.{TypeTree}
-use Rattle.wg_tree.specs.declared.types.TypeTree.TheVariants as type
+use Rattle.wg_typed.specs.declared.types.ElementType.{ElementType}
+use Rattle.wg_typed.specs.declared.types.ElementType.TheVariants as element
+use Rattle.wg_typed.specs.declared.types.TypeTree.{TypeTree}
+use Rattle.wg_typed.specs.declared.types.TypeTree.TheVariants as type
 
 -- ---- equal types
 

@@ -6,10 +6,10 @@ use Rattle.wg_typing.specs.Conversions.{same_type, fits}
 use Rattle.wg_tree.specs.declared.expr.Named.{Named}
 use Rattle.wg_tree.specs.declared.expr.BinaryOperator.{BinaryOperator}
 use Rattle.wg_tree.specs.declared.expr.Expr.TheOpen.{Expr-F}
-use Rattle.wg_tree.specs.declared.types.TypeTree.{TypeTree}
-use Rattle.wg_tree.specs.declared.typed_expr.TypedExpr.{TypedExpr, roll-TypedExpr}
-use Rattle.wg_tree.specs.declared.typed_expr.TypedKind.{TypedKind}
-use Rattle.wg_tree.specs.declared.typed_expr.TypedKind.TheVariants as tree
+use Rattle.wg_typed.specs.declared.types.TypeTree.{TypeTree}
+use Rattle.wg_typed.specs.declared.typed_expr.TypedExpr.{TypedExpr, roll-TypedExpr}
+use Rattle.wg_typed.specs.declared.typed_expr.TypedKind.{TypedKind}
+use Rattle.wg_typed.specs.declared.typed_expr.TypedKind.TheVariants as tree
 use Rattle.wg_typing.specs.declared.scope.Standing.{Standing}
 use Rattle.wg_typing.specs.declared.scope.Standing.TheVariants as standing
 use Rattle.wg_typing.specs.declared.scope.Value.{Value}

@@ -16,7 +16,7 @@ use Rattle.wg_typing.specs.RulesShared.{where_typed, all_pieces_whole}
 use Rattle.wg_typing.specs.Sites.{Site, AtExpr, AtFlag, AtWanted, AtConst, AtStep, AtHandle, AtReturn, AtJump, AtType, AtName, AtSize, AtLocal, AtLimit, AtObject, AtFunction}
 use Rattle.wg_typing.specs.RulesMismatchCall.{same_length}
 use Rattle.wg_tree.specs.declared.expr.Expr.TheOpen.{Expr-F}
-use Rattle.wg_tree.specs.declared.typed_stmt.InterlockedForm.{InterlockedForm}
+use Rattle.wg_typed.specs.declared.typed_stmt.InterlockedForm.{InterlockedForm}
 use Rattle.wg_typing.specs.declared.scope.Object.{Object}
 use Rattle.wg_typing.specs.declared.scope.Value.TheVariants as value
 

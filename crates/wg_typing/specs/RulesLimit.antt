@@ -8,7 +8,7 @@ use Rattle.wg_typing.specs.SiteTree.{at_if}
 use Rattle.wg_typing.specs.RulesShared.{of_call}
 use Rattle.wg_typing.specs.Sites.{Site, AtExpr, AtFlag, AtWanted, AtConst, AtStep, AtHandle, AtReturn, AtJump, AtType, AtName, AtSize, AtLocal, AtLimit, AtObject, AtFunction, Event, declares, requests, completes, collective, returns, calls}
 use Rattle.wg_tree.specs.declared.expr.Named.{Named}
-use Rattle.wg_tree.specs.declared.types.ConstValue.{ConstValue}
+use Rattle.wg_typed.specs.declared.types.ConstValue.{ConstValue}
 
 -- the most words of the locals of one function, of all its scopes together, without its parameters
 abbrev pub locals_limit : ℕ

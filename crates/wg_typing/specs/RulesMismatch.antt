@@ -2,7 +2,7 @@
 use Rattle.std.specs.Prelude.{ℕ, Bool, not, ◌&&◌, is_some, is_none, List, [], ◌∷◌, ◌++◌, Option, Some, None, if◌then◌else◌}
 use Rattle.wg_words.specs.declared.place.Place.{Place}
 use Rattle.wg_typing.specs.Conversions.{Operation, type_of, fits, is_number, class_of, suits, operation_on}
-use Rattle.wg_tree.specs.Constants.{const_value}
+use Rattle.wg_typed.specs.Constants.{const_value}
 use Rattle.wg_typing.specs.Scope.{as_const, known_names, Context, Gives, nothing, a_value, unsure}
 use Rattle.wg_typing.specs.Layers.{Part, TypedPart, typed_part}
 use Rattle.wg_typing.specs.TypingOperators.{typed_of}
@@ -18,8 +18,8 @@ use Rattle.wg_tree.specs.declared.expr.BinaryOperator.{BinaryOperator}
 use Rattle.wg_tree.specs.declared.expr.Expr.{Expr}
 use Rattle.wg_tree.specs.declared.stmt.Step.{Step}
 use Rattle.wg_tree.specs.declared.stmt.Step.TheVariants as step
-use Rattle.wg_tree.specs.declared.types.ConstValue.{ConstValue}
-use Rattle.wg_tree.specs.declared.types.TypeTree.{TypeTree}
+use Rattle.wg_typed.specs.declared.types.ConstValue.{ConstValue}
+use Rattle.wg_typed.specs.declared.types.TypeTree.{TypeTree}
 use Rattle.wg_typing.specs.declared.scope.Act.TheVariants as act
 use Rattle.wg_typing.specs.declared.scope.Value.{Value}
 use Rattle.wg_typing.specs.declared.scope.Value.TheVariants as value

@@ -14,9 +14,9 @@ use Rattle.wg_typing.specs.SiteTree.{at_if}
 use Rattle.wg_typing.specs.RulesShared.{where_typed, flags_whole, failing, each_failing, maybe_failing, unfit}
 use Rattle.wg_tree.specs.declared.item.Direction.{Direction}
 use Rattle.wg_tree.specs.declared.item.Direction.TheVariants as direction
-use Rattle.wg_tree.specs.declared.types.TypeTree.{TypeTree}
-use Rattle.wg_tree.specs.declared.typed_expr.Intrinsic.{Intrinsic}
-use Rattle.wg_tree.specs.declared.typed_stmt.InterlockedForm.{InterlockedForm}
+use Rattle.wg_typed.specs.declared.types.TypeTree.{TypeTree}
+use Rattle.wg_typed.specs.declared.typed_expr.Intrinsic.{Intrinsic}
+use Rattle.wg_typed.specs.declared.typed_stmt.InterlockedForm.{InterlockedForm}
 use Rattle.wg_typing.specs.declared.scope.FormalParameter.{FormalParameter}
 
 abbrev pub is_given_back : Direction → Bool

@@ -19,8 +19,8 @@ use Rattle.wg_typing.specs.RulesMismatchCall.{unfit_raw, unfit_call}
 use Rattle.wg_tree.specs.declared.expr.Named.{Named}
 use Rattle.wg_tree.specs.declared.expr.BinaryOperator.{BinaryOperator}
 use Rattle.wg_tree.specs.declared.expr.Expr.TheOpen.{Expr-F}
-use Rattle.wg_tree.specs.declared.types.TypeTree.{TypeTree}
-use Rattle.wg_tree.specs.declared.types.TypeTree.TheVariants as type
+use Rattle.wg_typed.specs.declared.types.TypeTree.{TypeTree}
+use Rattle.wg_typed.specs.declared.types.TypeTree.TheVariants as type
 use Rattle.wg_typing.specs.declared.scope.Meant.{Meant}
 use Rattle.wg_typing.specs.declared.scope.Meant.TheVariants as meant
 use Rattle.wg_typing.specs.declared.scope.Object.{Object}

@@ -17,7 +17,7 @@ use Rattle.wg_typing.specs.RulesMismatchCall.{is_given_back, same_length}
 use Rattle.wg_tree.specs.declared.expr.Expr.TheOpen.{Expr-F}
 use Rattle.wg_tree.specs.declared.stmt.Step.{Step}
 use Rattle.wg_tree.specs.declared.stmt.Step.TheVariants as step
-use Rattle.wg_tree.specs.declared.typed_stmt.InterlockedForm.{InterlockedForm}
+use Rattle.wg_typed.specs.declared.typed_stmt.InterlockedForm.{InterlockedForm}
 use Rattle.wg_typing.specs.declared.scope.Object.{Object}
 use Rattle.wg_typing.specs.declared.scope.FormalParameter.{FormalParameter}
 use Rattle.wg_typing.specs.declared.scope.Value.{Value}

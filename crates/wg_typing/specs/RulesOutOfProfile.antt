@@ -8,7 +8,7 @@ use Rattle.wg_typing.specs.TypingHandle.{struct_number}
 use Rattle.wg_typing.specs.SiteTree.{at_if}
 use Rattle.wg_typing.specs.RulesShared.{of_call}
 use Rattle.wg_typing.specs.Sites.{Site, AtExpr, AtFlag, AtWanted, AtConst, AtStep, AtHandle, AtReturn, AtJump, AtType, AtName, AtSize, AtLocal, AtLimit, AtObject, AtFunction}
-use Rattle.wg_tree.specs.declared.types.TypeTree.{TypeTree}
+use Rattle.wg_typed.specs.declared.types.TypeTree.{TypeTree}
 
 abbrev pub entry_called : Place → Callee → List Place
 entry_called name (plain number result parameters chain) = []

@@ -14,7 +14,7 @@ use Rattle.wg_typing.specs.declared.scope.Act.{Act}
 use Rattle.wg_typing.specs.declared.scope.Value.{Value}
 use Rattle.wg_typing.specs.declared.scope.Value.TheVariants as value
 use Rattle.wg_typing.specs.Conversions.{fits}
-use Rattle.wg_tree.specs.declared.types.TypeTree.{TypeTree}
+use Rattle.wg_typed.specs.declared.types.TypeTree.{TypeTree}
 
 abbrev pub is_typed : Part → Bool
 is_typed p = is_some (typed_part p)

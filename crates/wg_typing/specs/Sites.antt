@@ -9,8 +9,8 @@ use Rattle.wg_tree.specs.declared.expr.TypeName.{TypeName}
 use Rattle.wg_typing.specs.declared.scope.Value.{Value}
 use Rattle.wg_tree.specs.declared.stmt.ObjectType.{ObjectType}
 use Rattle.wg_tree.specs.declared.stmt.Step.{Step}
-use Rattle.wg_tree.specs.declared.types.ConstValue.{ConstValue}
-use Rattle.wg_tree.specs.declared.types.TypeTree.{TypeTree}
+use Rattle.wg_typed.specs.declared.types.ConstValue.{ConstValue}
+use Rattle.wg_typed.specs.declared.types.TypeTree.{TypeTree}
 
 -- what happens in a function, in the order of the text
 pub data Event : Type 0 where

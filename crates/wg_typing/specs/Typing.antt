@@ -16,7 +16,7 @@ use Rattle.wg_typing.specs.RulesBarrier.{bad_barrier}
 use Rattle.wg_typing.specs.RulesOutputCall.{bad_output_call}
 use Rattle.wg_typing.specs.RulesNotCompleted.{not_completed}
 use Rattle.wg_tree.specs.declared.item.Source.{Source}
-use Rattle.wg_tree.specs.declared.typed.Typed.{Typed}
+use Rattle.wg_typed.specs.declared.typed.Typed.{Typed}
 
 pub data Rule : Type 0 where
   UnknownName : Rule

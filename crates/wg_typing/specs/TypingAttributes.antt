@@ -2,18 +2,18 @@
 use Rattle.std.specs.Prelude.{ℕ, suc, if◌then◌else◌, List, [], ◌∷◌, map, Option, Some, None}
 use Rattle.std.specs.Str.{bytes_eq}
 use Rattle.wg_typing.specs.Named.{is_called}
-use Rattle.wg_tree.specs.Constants.{const_value}
+use Rattle.wg_typed.specs.Constants.{const_value}
 use Rattle.wg_typing.specs.Scope.{Context, as_const, known_names}
 use Rattle.wg_typing.specs.SiteTree.{Sites, nowhere, ◌&◌}
 use Rattle.wg_typing.specs.Sites.{Site}
 use Rattle.wg_typing.specs.TypingExpr.{Alone, a_text, a_name, neither, seen, part, sites_of}
 use Rattle.wg_tree.specs.declared.expr.Expr.{Expr}
 use Rattle.wg_tree.specs.declared.stmt.Attribute.{Attribute}
-use Rattle.wg_tree.specs.declared.types.ConstValue.{ConstValue}
-use Rattle.wg_tree.specs.declared.typed_stmt.ArgumentValue.{ArgumentValue}
-use Rattle.wg_tree.specs.declared.typed_stmt.ArgumentValue.TheVariants as argument
-use Rattle.wg_tree.specs.declared.typed_stmt.TypedArgument.{TypedArgument}
-use Rattle.wg_tree.specs.declared.typed_stmt.TypedAttribute.{TypedAttribute}
+use Rattle.wg_typed.specs.declared.types.ConstValue.{ConstValue}
+use Rattle.wg_typed.specs.declared.typed_stmt.ArgumentValue.{ArgumentValue}
+use Rattle.wg_typed.specs.declared.typed_stmt.ArgumentValue.TheVariants as argument
+use Rattle.wg_typed.specs.declared.typed_stmt.TypedArgument.{TypedArgument}
+use Rattle.wg_typed.specs.declared.typed_stmt.TypedAttribute.{TypedAttribute}
 
 -- ---- arguments
 

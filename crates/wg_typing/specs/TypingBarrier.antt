@@ -8,7 +8,7 @@ use Rattle.wg_typing.specs.Conversions.{uint_type}
 use Rattle.wg_typing.specs.Scope.{Context, Around, in_entry, in_plain, in_const, look}
 use Rattle.wg_typing.specs.Layers.{Part, Piece, word, zero_word, other, fixed, act}
 use Rattle.wg_tree.specs.declared.expr.Named.{Named}
-use Rattle.wg_tree.specs.declared.typed_expr.TypedKind.TheVariants as tree
+use Rattle.wg_typed.specs.declared.typed_expr.TypedKind.TheVariants as tree
 use Rattle.wg_typing.specs.declared.scope.Meant.{Meant}
 use Rattle.wg_typing.specs.declared.scope.Meant.TheVariants as meant
 use Rattle.wg_typing.specs.declared.scope.Object.{Object}

@@ -8,9 +8,9 @@ use Rattle.wg_tree.specs.declared.expr.Named.{Named}
 use Rattle.wg_tree.specs.declared.expr.TypeName.{TypeName}
 use Rattle.wg_tree.specs.declared.item.BufferType.{BufferType}
 use Rattle.wg_tree.specs.declared.item.BufferType.TheVariants as buffer_type
-use Rattle.wg_tree.specs.declared.typed.TypedBuffer.{TypedBuffer}
-use Rattle.wg_tree.specs.declared.typed.TypedBufferType.{TypedBufferType}
-use Rattle.wg_tree.specs.declared.typed.TypedBufferType.TheVariants as typed_buffer
+use Rattle.wg_typed.specs.declared.typed.TypedBuffer.{TypedBuffer}
+use Rattle.wg_typed.specs.declared.typed.TypedBufferType.{TypedBufferType}
+use Rattle.wg_typed.specs.declared.typed.TypedBufferType.TheVariants as typed_buffer
 use Rattle.wg_typing.specs.declared.scope.Meant.{Meant}
 use Rattle.wg_typing.specs.declared.scope.Meant.TheVariants as meant
 use Rattle.wg_typing.specs.declared.scope.Object.TheVariants as object

@@ -5,10 +5,10 @@ use Rattle.wg_typing.specs.Named.{at_name}
 use Rattle.wg_typing.specs.Scope.{Context, Around, in_entry, in_plain, in_const, look}
 use Rattle.wg_typing.specs.TypingInterlocked.{interlocked_names}
 use Rattle.wg_tree.specs.declared.expr.Named.{Named}
-use Rattle.wg_tree.specs.declared.types.TypeTree.{TypeTree}
-use Rattle.wg_tree.specs.declared.typed_expr.Intrinsic.{Intrinsic}
-use Rattle.wg_tree.specs.declared.typed_expr.Intrinsic.TheVariants as intrinsic
-use Rattle.wg_tree.specs.declared.typed_stmt.InterlockedForm.{InterlockedForm}
+use Rattle.wg_typed.specs.declared.types.TypeTree.{TypeTree}
+use Rattle.wg_typed.specs.declared.typed_expr.Intrinsic.{Intrinsic}
+use Rattle.wg_typed.specs.declared.typed_expr.Intrinsic.TheVariants as intrinsic
+use Rattle.wg_typed.specs.declared.typed_stmt.InterlockedForm.{InterlockedForm}
 use Rattle.wg_typing.specs.declared.scope.Meant.{Meant}
 use Rattle.wg_typing.specs.declared.scope.Meant.TheVariants as meant
 use Rattle.wg_typing.specs.declared.scope.FormalParameter.{FormalParameter}

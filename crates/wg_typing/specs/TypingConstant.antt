@@ -2,7 +2,7 @@
 use Rattle.std.specs.Prelude.{ℕ, ◌==◌, not, if◌then◌else◌, [], ◌∷◌, replicate, Option, Some, None, unwrap_or}
 use Rattle.wg_typing.specs.Maybe.{◌>>=◌}
 use Rattle.wg_typing.specs.Conversions.{same_scalar}
-use Rattle.wg_tree.specs.Constants.{const_value}
+use Rattle.wg_typed.specs.Constants.{const_value}
 use Rattle.wg_typing.specs.Scope.{Context, as_const, known_names, named_type}
 use Rattle.wg_typing.specs.Layers.{fit}
 use Rattle.wg_typing.specs.TypingExpr.{part}
@@ -13,9 +13,9 @@ use Rattle.wg_tree.specs.declared.expr.Scalar.{Scalar}
 use Rattle.wg_tree.specs.declared.expr.Scalar.TheVariants as scalar
 use Rattle.wg_tree.specs.declared.expr.Expr.{Expr}
 use Rattle.wg_tree.specs.declared.expr.TypeName.{TypeName}
-use Rattle.wg_tree.specs.declared.types.ConstValue.{ConstValue}
-use Rattle.wg_tree.specs.declared.types.TypeTree.{TypeTree}
-use Rattle.wg_tree.specs.declared.types.TypeTree.TheVariants as type
+use Rattle.wg_typed.specs.declared.types.ConstValue.{ConstValue}
+use Rattle.wg_typed.specs.declared.types.TypeTree.{TypeTree}
+use Rattle.wg_typed.specs.declared.types.TypeTree.TheVariants as type
 use Rattle.wg_typing.specs.declared.scope.Meant.{Meant}
 use Rattle.wg_typing.specs.declared.scope.Meant.TheVariants as meant
 

@@ -5,7 +5,7 @@ use Rattle.wg_typing.specs.Maybe.{◌>>=◌, where_true}
 use Rattle.wg_typing.specs.Conversions.{Numbers, type_of}
 use Rattle.wg_typing.specs.Layers.{Part, all_typed_parts, fixed}
 use Rattle.wg_typing.specs.TypingIntrinsic.{all_numbers, convert_all}
-use Rattle.wg_tree.specs.declared.typed_expr.TypedKind.TheVariants as tree
+use Rattle.wg_typed.specs.declared.typed_expr.TypedKind.TheVariants as tree
 use Rattle.wg_typing.specs.declared.scope.Value.{Value}
 
 abbrev pub components : Option ℕ → ℕ

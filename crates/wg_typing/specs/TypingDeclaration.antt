@@ -1,7 +1,7 @@
 -- Declarations of locals (HLSL Shader Model 6.8, declarations).
 use Rattle.std.specs.Prelude.{Bool, List, [], ◌∷◌, ◌++◌, length, is_some, Option, Some, None}
 use Rattle.wg_typing.specs.Maybe.{◌>>=◌, if_there}
-use Rattle.wg_tree.specs.Layout.{words_of}
+use Rattle.wg_typed.specs.Layout.{words_of}
 use Rattle.wg_typing.specs.Scope.{Context, own_names, declare, named_type}
 use Rattle.wg_typing.specs.SiteTree.{Sites, nowhere, only, ◌&◌}
 use Rattle.wg_typing.specs.Sites.{Site, AtType, AtLocal}
@@ -9,8 +9,8 @@ use Rattle.wg_typing.specs.TypingDeclared.{declared_type, wanted_there, fit_in, 
 use Rattle.wg_tree.specs.declared.expr.Named.{Named}
 use Rattle.wg_tree.specs.declared.stmt.Declaration.{Declaration}
 use Rattle.wg_tree.specs.declared.stmt.Declarator.{Declarator}
-use Rattle.wg_tree.specs.declared.types.TypeTree.{TypeTree}
-use Rattle.wg_tree.specs.declared.typed_stmt.TypedDeclarator.{TypedDeclarator}
+use Rattle.wg_typed.specs.declared.types.TypeTree.{TypeTree}
+use Rattle.wg_typed.specs.declared.typed_stmt.TypedDeclarator.{TypedDeclarator}
 use Rattle.wg_typing.specs.declared.scope.Meant.TheVariants as meant
 
 -- a local of a type takes the next number

@@ -2,8 +2,8 @@
 use Rattle.std.specs.Prelude.{ℕ, nat_le, List, [], Option, Some, None}
 use Rattle.wg_typing.specs.Maybe.{◌>>=◌, where_true}
 use Rattle.wg_typing.specs.Conversions.{uint_type, truth_type, element_of}
-use Rattle.wg_tree.specs.Layout.{words_of}
-use Rattle.wg_tree.specs.Constants.{const_value}
+use Rattle.wg_typed.specs.Layout.{words_of}
+use Rattle.wg_typed.specs.Constants.{const_value}
 use Rattle.wg_typing.specs.Scope.{Context, as_const, known_names}
 use Rattle.wg_typing.specs.Layers.{typed_part, fit}
 use Rattle.wg_typing.specs.TypingExpr.{part, sites_of}
@@ -12,10 +12,10 @@ use Rattle.wg_typing.specs.SiteTree.{Sites, nowhere, only, ◌&◌}
 use Rattle.wg_typing.specs.Sites.{Site, AtWanted, AtConst, AtName, AtSize, AtLimit}
 use Rattle.wg_tree.specs.declared.expr.Named.{Named}
 use Rattle.wg_tree.specs.declared.expr.Expr.{Expr}
-use Rattle.wg_tree.specs.declared.types.ConstValue.{ConstValue}
-use Rattle.wg_tree.specs.declared.types.TypeTree.{TypeTree}
-use Rattle.wg_tree.specs.declared.types.TypeTree.TheVariants as type
-use Rattle.wg_tree.specs.declared.typed_expr.TypedExpr.{TypedExpr}
+use Rattle.wg_typed.specs.declared.types.ConstValue.{ConstValue}
+use Rattle.wg_typed.specs.declared.types.TypeTree.{TypeTree}
+use Rattle.wg_typed.specs.declared.types.TypeTree.TheVariants as type
+use Rattle.wg_typed.specs.declared.typed_expr.TypedExpr.{TypedExpr}
 
 -- the most words of a type, and of a record
 abbrev pub type_limit : ℕ

@@ -7,16 +7,16 @@ use Rattle.wg_typing.specs.Conversions.{uint_type}
 use Rattle.wg_typing.specs.Scope.{Context}
 use Rattle.wg_typing.specs.Layers.{FormLayer, member, method, index, Part, fit, tree_of}
 use Rattle.wg_typing.specs.TypingObjects.{Method, method_of, method_value, takes, element_value}
-use Rattle.wg_tree.specs.Layout.{element_type}
+use Rattle.wg_typed.specs.Layout.{element_type}
 use Rattle.wg_tree.specs.declared.expr.Scalar.{Scalar}
-use Rattle.wg_tree.specs.declared.types.TypeTree.{TypeTree}
-use Rattle.wg_tree.specs.declared.types.TypeTree.TheVariants as type
-use Rattle.wg_tree.specs.declared.typed.TypedStruct.{TypedStruct}
-use Rattle.wg_tree.specs.declared.typed.TypedField.{TypedField}
-use Rattle.wg_tree.specs.declared.typed_expr.TypedExpr.{TypedExpr}
-use Rattle.wg_tree.specs.declared.typed_expr.TypedKind.TheVariants as tree
-use Rattle.wg_tree.specs.declared.typed_expr.Access.{Access}
-use Rattle.wg_tree.specs.declared.typed_expr.Access.TheVariants as access
+use Rattle.wg_typed.specs.declared.types.TypeTree.{TypeTree}
+use Rattle.wg_typed.specs.declared.types.TypeTree.TheVariants as type
+use Rattle.wg_typed.specs.declared.typed.TypedStruct.{TypedStruct}
+use Rattle.wg_typed.specs.declared.typed.TypedField.{TypedField}
+use Rattle.wg_typed.specs.declared.typed_expr.TypedExpr.{TypedExpr}
+use Rattle.wg_typed.specs.declared.typed_expr.TypedKind.TheVariants as tree
+use Rattle.wg_typed.specs.declared.typed_expr.Access.{Access}
+use Rattle.wg_typed.specs.declared.typed_expr.Access.TheVariants as access
 use Rattle.wg_typing.specs.declared.scope.Object.{Object}
 use Rattle.wg_typing.specs.declared.scope.Standing.{Standing}
 use Rattle.wg_typing.specs.declared.scope.Standing.TheVariants as standing

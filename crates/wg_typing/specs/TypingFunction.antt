@@ -19,11 +19,11 @@ use Rattle.wg_tree.specs.declared.item.Direction.TheVariants as direction
 use Rattle.wg_tree.specs.declared.item.Parameter.{Parameter}
 use Rattle.wg_tree.specs.declared.item.ResultType.{ResultType}
 use Rattle.wg_tree.specs.declared.item.ResultType.TheVariants as result_type
-use Rattle.wg_tree.specs.declared.types.TypeTree.{TypeTree}
-use Rattle.wg_tree.specs.declared.typed.TypedParameter.{TypedParameter}
-use Rattle.wg_tree.specs.declared.typed.TypedParameterType.{TypedParameterType}
-use Rattle.wg_tree.specs.declared.typed.TypedParameterType.TheVariants as typed_parameter
-use Rattle.wg_tree.specs.declared.typed.TypedFunction.{TypedFunction}
+use Rattle.wg_typed.specs.declared.types.TypeTree.{TypeTree}
+use Rattle.wg_typed.specs.declared.typed.TypedParameter.{TypedParameter}
+use Rattle.wg_typed.specs.declared.typed.TypedParameterType.{TypedParameterType}
+use Rattle.wg_typed.specs.declared.typed.TypedParameterType.TheVariants as typed_parameter
+use Rattle.wg_typed.specs.declared.typed.TypedFunction.{TypedFunction}
 use Rattle.wg_typing.specs.declared.scope.Meant.{Meant}
 use Rattle.wg_typing.specs.declared.scope.Meant.TheVariants as meant
 use Rattle.wg_typing.specs.declared.scope.FormalParameter.{FormalParameter}

@@ -7,10 +7,10 @@ use Rattle.wg_typing.specs.Layers.{Part, typed_part, fit, fixed, act}
 use Rattle.wg_typing.specs.TypingInterlocked.{is_fixed}
 use Rattle.wg_tree.specs.declared.item.Direction.{Direction}
 use Rattle.wg_tree.specs.declared.item.Direction.TheVariants as direction
-use Rattle.wg_tree.specs.declared.types.TypeTree.{TypeTree}
-use Rattle.wg_tree.specs.declared.typed_expr.TypedExpr.{TypedExpr}
-use Rattle.wg_tree.specs.declared.typed_expr.TypedKind.TheVariants as tree
-use Rattle.wg_tree.specs.declared.typed_stmt.TypedStep.TheVariants as step
+use Rattle.wg_typed.specs.declared.types.TypeTree.{TypeTree}
+use Rattle.wg_typed.specs.declared.typed_expr.TypedExpr.{TypedExpr}
+use Rattle.wg_typed.specs.declared.typed_expr.TypedKind.TheVariants as tree
+use Rattle.wg_typed.specs.declared.typed_stmt.TypedStep.TheVariants as step
 use Rattle.wg_typing.specs.declared.scope.FormalParameter.{FormalParameter}
 use Rattle.wg_typing.specs.declared.scope.Value.{Value}
 use Rattle.wg_typing.specs.declared.scope.Act.TheVariants as act_of

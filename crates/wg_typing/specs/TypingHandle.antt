@@ -1,7 +1,7 @@
 -- Objects with their record types, and handles of output records (DirectX-Specs, Work Graphs, node outputs; where a handle may stand is own).
 use Rattle.std.specs.Prelude.{ℕ, ◌==◌, Bool, true, false, not, ◌&&◌, if◌then◌else◌, [], ◌∷◌, ◌++◌, length, is_some, Option, Some, None}
 use Rattle.wg_typing.specs.Maybe.{◌>>=◌, where_true}
-use Rattle.wg_tree.specs.Layout.{words_of}
+use Rattle.wg_typed.specs.Layout.{words_of}
 use Rattle.wg_typing.specs.Scope.{Context, own_names, declare, named_type, collective_here}
 use Rattle.wg_typing.specs.TypingExpr.{part, sites_of}
 use Rattle.wg_typing.specs.SiteTree.{Sites, nowhere, only, ◌&◌}
@@ -13,12 +13,12 @@ use Rattle.wg_tree.specs.declared.expr.TypeName.{TypeName}
 use Rattle.wg_tree.specs.declared.stmt.ObjectType.{ObjectType}
 use Rattle.wg_tree.specs.declared.stmt.ObjectWord.{ObjectWord}
 use Rattle.wg_tree.specs.declared.stmt.ObjectWord.TheVariants as object_word
-use Rattle.wg_tree.specs.declared.types.TypeTree.{TypeTree}
-use Rattle.wg_tree.specs.declared.types.TypeTree.TheVariants as type
-use Rattle.wg_tree.specs.declared.typed.TypedHandle.{TypedHandle}
-use Rattle.wg_tree.specs.declared.typed_expr.TypedExpr.{TypedExpr}
-use Rattle.wg_tree.specs.declared.typed_stmt.TypedStmt.{TypedStmt}
-use Rattle.wg_tree.specs.declared.typed_stmt.TypedStmt.TheVariants as t
+use Rattle.wg_typed.specs.declared.types.TypeTree.{TypeTree}
+use Rattle.wg_typed.specs.declared.types.TypeTree.TheVariants as type
+use Rattle.wg_typed.specs.declared.typed.TypedHandle.{TypedHandle}
+use Rattle.wg_typed.specs.declared.typed_expr.TypedExpr.{TypedExpr}
+use Rattle.wg_typed.specs.declared.typed_stmt.TypedStmt.{TypedStmt}
+use Rattle.wg_typed.specs.declared.typed_stmt.TypedStmt.TheVariants as t
 use Rattle.wg_typing.specs.declared.scope.Act.TheVariants as act
 use Rattle.wg_typing.specs.declared.scope.Meant.TheVariants as meant
 use Rattle.wg_typing.specs.declared.scope.Object.TheVariants as object

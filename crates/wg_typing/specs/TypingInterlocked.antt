@@ -7,14 +7,14 @@ use Rattle.wg_typing.specs.Maybe.{◌>>=◌, where_true, if_there}
 use Rattle.wg_typing.specs.Conversions.{is_word, same_type, uint_type}
 use Rattle.wg_typing.specs.Layers.{Part, TypedPart, typed_part, fit, act}
 use Rattle.wg_tree.specs.declared.expr.Scalar.TheVariants as scalar
-use Rattle.wg_tree.specs.declared.types.TypeTree.{TypeTree}
-use Rattle.wg_tree.specs.declared.types.TypeTree.TheVariants as type
-use Rattle.wg_tree.specs.declared.typed_expr.TypedExpr.{TypedExpr}
-use Rattle.wg_tree.specs.declared.typed_stmt.InterlockedForm.{InterlockedForm}
-use Rattle.wg_tree.specs.declared.typed_stmt.InterlockedForm.TheVariants as form
-use Rattle.wg_tree.specs.declared.typed_stmt.Destination.{Destination}
-use Rattle.wg_tree.specs.declared.typed_stmt.Destination.TheVariants as destination
-use Rattle.wg_tree.specs.declared.typed_stmt.TypedStep.TheVariants as step
+use Rattle.wg_typed.specs.declared.types.TypeTree.{TypeTree}
+use Rattle.wg_typed.specs.declared.types.TypeTree.TheVariants as type
+use Rattle.wg_typed.specs.declared.typed_expr.TypedExpr.{TypedExpr}
+use Rattle.wg_typed.specs.declared.typed_stmt.InterlockedForm.{InterlockedForm}
+use Rattle.wg_typed.specs.declared.typed_stmt.InterlockedForm.TheVariants as form
+use Rattle.wg_typed.specs.declared.typed_stmt.Destination.{Destination}
+use Rattle.wg_typed.specs.declared.typed_stmt.Destination.TheVariants as destination
+use Rattle.wg_typed.specs.declared.typed_stmt.TypedStep.TheVariants as step
 use Rattle.wg_typing.specs.declared.scope.Standing.{Standing}
 use Rattle.wg_typing.specs.declared.scope.Standing.TheVariants as standing
 use Rattle.wg_typing.specs.declared.scope.Value.{Value}

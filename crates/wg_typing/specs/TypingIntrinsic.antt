@@ -6,11 +6,11 @@ use Rattle.wg_typing.specs.Maybe.{◌>>=◌, where_true, all_of}
 use Rattle.wg_typing.specs.Conversions.{Numbers, numbers, type_of, is_number, is_uint, truths, common_size, chosen_scalar}
 use Rattle.wg_typing.specs.Layers.{Part, TypedPart, all_typed_parts, convert, fixed}
 use Rattle.wg_tree.specs.declared.expr.Scalar.TheVariants as scalar
-use Rattle.wg_tree.specs.declared.types.TypeTree.{TypeTree}
-use Rattle.wg_tree.specs.declared.typed_expr.Intrinsic.{Intrinsic}
-use Rattle.wg_tree.specs.declared.typed_expr.Intrinsic.TheVariants as intrinsic
-use Rattle.wg_tree.specs.declared.typed_expr.TypedExpr.{TypedExpr}
-use Rattle.wg_tree.specs.declared.typed_expr.TypedKind.TheVariants as tree
+use Rattle.wg_typed.specs.declared.types.TypeTree.{TypeTree}
+use Rattle.wg_typed.specs.declared.typed_expr.Intrinsic.{Intrinsic}
+use Rattle.wg_typed.specs.declared.typed_expr.Intrinsic.TheVariants as intrinsic
+use Rattle.wg_typed.specs.declared.typed_expr.TypedExpr.{TypedExpr}
+use Rattle.wg_typed.specs.declared.typed_expr.TypedKind.TheVariants as tree
 use Rattle.wg_typing.specs.declared.scope.Value.{Value}
 
 abbrev pub arity_of : Intrinsic → ℕ

@@ -11,8 +11,8 @@ use Rattle.wg_tree.specs.declared.expr.Expr.{Expr}
 use Rattle.wg_tree.specs.declared.stmt.Header.{Header}
 use Rattle.wg_tree.specs.declared.stmt.Start.{Start}
 use Rattle.wg_tree.specs.declared.stmt.Start.TheVariants as start
-use Rattle.wg_tree.specs.declared.typed_stmt.TypedStart.{TypedStart}
-use Rattle.wg_tree.specs.declared.typed_stmt.TypedStart.TheVariants as typed_start
+use Rattle.wg_typed.specs.declared.typed_stmt.TypedStart.{TypedStart}
+use Rattle.wg_typed.specs.declared.typed_stmt.TypedStart.TheVariants as typed_start
 
 -- what a `for` begins with
 abbrev pub start_after : Option Start → Context → Context

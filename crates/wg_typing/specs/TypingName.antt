@@ -6,7 +6,7 @@ use Rattle.wg_typing.specs.Conversions.{truth_type, number_type}
 use Rattle.wg_typing.specs.Scope.{Around, in_entry, in_plain, in_const}
 use Rattle.wg_typing.specs.Layers.{valued, fixed}
 use Rattle.wg_tree.specs.declared.expr.Named.{Named}
-use Rattle.wg_tree.specs.declared.typed_expr.TypedKind.TheVariants as tree
+use Rattle.wg_typed.specs.declared.typed_expr.TypedKind.TheVariants as tree
 use Rattle.wg_typing.specs.declared.scope.Meant.{Meant}
 use Rattle.wg_typing.specs.declared.scope.Meant.TheVariants as meant
 use Rattle.wg_typing.specs.declared.scope.Standing.TheVariants as standing

@@ -8,14 +8,14 @@ use Rattle.wg_typing.specs.Named.{at_name}
 use Rattle.wg_typing.specs.Conversions.{uint_type, truth_type, uints}
 use Rattle.wg_typing.specs.Layers.{Part, fit_all, valued, fixed, act}
 use Rattle.wg_typing.specs.TypingInterlocked.{interlocked_names, operands, interlocked_raw}
-use Rattle.wg_tree.specs.declared.types.TypeTree.{TypeTree}
-use Rattle.wg_tree.specs.declared.types.TypeTree.TheVariants as type
-use Rattle.wg_tree.specs.declared.typed.TypedBufferType.{TypedBufferType}
-use Rattle.wg_tree.specs.declared.typed.TypedBufferType.TheVariants as buffer_type
-use Rattle.wg_tree.specs.declared.typed_expr.TypedExpr.{TypedExpr}
-use Rattle.wg_tree.specs.declared.typed_expr.TypedKind.TheVariants as tree
-use Rattle.wg_tree.specs.declared.typed_stmt.InterlockedForm.{InterlockedForm}
-use Rattle.wg_tree.specs.declared.typed_stmt.TypedStep.TheVariants as step
+use Rattle.wg_typed.specs.declared.types.TypeTree.{TypeTree}
+use Rattle.wg_typed.specs.declared.types.TypeTree.TheVariants as type
+use Rattle.wg_typed.specs.declared.typed.TypedBufferType.{TypedBufferType}
+use Rattle.wg_typed.specs.declared.typed.TypedBufferType.TheVariants as buffer_type
+use Rattle.wg_typed.specs.declared.typed_expr.TypedExpr.{TypedExpr}
+use Rattle.wg_typed.specs.declared.typed_expr.TypedKind.TheVariants as tree
+use Rattle.wg_typed.specs.declared.typed_stmt.InterlockedForm.{InterlockedForm}
+use Rattle.wg_typed.specs.declared.typed_stmt.TypedStep.TheVariants as step
 use Rattle.wg_typing.specs.declared.scope.Object.{Object}
 use Rattle.wg_typing.specs.declared.scope.Object.TheVariants as object
 use Rattle.wg_typing.specs.declared.scope.Standing.{Standing}

@@ -14,10 +14,10 @@ use Rattle.wg_tree.specs.declared.stmt.ObjectWord.TheVariants as object_word
 use Rattle.wg_tree.specs.declared.item.Parameter.{Parameter}
 use Rattle.wg_tree.specs.declared.item.ParameterType.{ParameterType}
 use Rattle.wg_tree.specs.declared.item.ParameterType.TheVariants as parameter_type
-use Rattle.wg_tree.specs.declared.types.TypeTree.{TypeTree}
-use Rattle.wg_tree.specs.declared.typed.TypedParameter.{TypedParameter}
-use Rattle.wg_tree.specs.declared.typed.TypedParameterType.{TypedParameterType}
-use Rattle.wg_tree.specs.declared.typed.TypedParameterType.TheVariants as typed_parameter
+use Rattle.wg_typed.specs.declared.types.TypeTree.{TypeTree}
+use Rattle.wg_typed.specs.declared.typed.TypedParameter.{TypedParameter}
+use Rattle.wg_typed.specs.declared.typed.TypedParameterType.{TypedParameterType}
+use Rattle.wg_typed.specs.declared.typed.TypedParameterType.TheVariants as typed_parameter
 use Rattle.wg_typing.specs.declared.scope.Meant.{Meant}
 use Rattle.wg_typing.specs.declared.scope.Meant.TheVariants as meant
 use Rattle.wg_typing.specs.declared.scope.Object.{Object}

@@ -1,7 +1,7 @@
 -- Variables in `groupshared` memory (HLSL Shader Model 6.8; the limit on their words is own).
 use Rattle.std.specs.Prelude.{ℕ, ◌+◌, List, [], ◌∷◌, Option, Some, None}
 use Rattle.wg_typing.specs.Maybe.{◌>>=◌}
-use Rattle.wg_tree.specs.Layout.{words_of}
+use Rattle.wg_typed.specs.Layout.{words_of}
 use Rattle.wg_typing.specs.Scope.{named_type}
 use Rattle.wg_typing.specs.TypingDeclared.{declared_type}
 use Rattle.wg_typing.specs.SiteTree.{Sites, nowhere, only}
@@ -10,9 +10,9 @@ use Rattle.wg_typing.specs.TypingSoFar.{Text, outside}
 use Rattle.wg_tree.specs.declared.expr.Expr.{Expr}
 use Rattle.wg_tree.specs.declared.expr.Named.{Named}
 use Rattle.wg_tree.specs.declared.expr.TypeName.{TypeName}
-use Rattle.wg_tree.specs.declared.types.TypeTree.{TypeTree}
-use Rattle.wg_tree.specs.declared.typed.TypedStruct.{TypedStruct}
-use Rattle.wg_tree.specs.declared.typed.TypedShared.{TypedShared}
+use Rattle.wg_typed.specs.declared.types.TypeTree.{TypeTree}
+use Rattle.wg_typed.specs.declared.typed.TypedStruct.{TypedStruct}
+use Rattle.wg_typed.specs.declared.typed.TypedShared.{TypedShared}
 use Rattle.wg_typing.specs.declared.scope.Meant.{Meant}
 use Rattle.wg_typing.specs.declared.scope.Meant.TheVariants as meant
 

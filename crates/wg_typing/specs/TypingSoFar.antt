@@ -2,10 +2,10 @@
 use Rattle.std.specs.Prelude.{ℕ, false, List, [], ◌∷◌, ◌++◌, map, Option}
 use Rattle.wg_typing.specs.Scope.{Context, in_plain, nothing, name_bytes}
 use Rattle.wg_tree.specs.declared.expr.Named.{Named}
-use Rattle.wg_tree.specs.declared.typed.TypedStruct.{TypedStruct}
-use Rattle.wg_tree.specs.declared.typed.TypedBuffer.{TypedBuffer}
-use Rattle.wg_tree.specs.declared.typed.TypedShared.{TypedShared}
-use Rattle.wg_tree.specs.declared.typed.TypedFunction.{TypedFunction}
+use Rattle.wg_typed.specs.declared.typed.TypedStruct.{TypedStruct}
+use Rattle.wg_typed.specs.declared.typed.TypedBuffer.{TypedBuffer}
+use Rattle.wg_typed.specs.declared.typed.TypedShared.{TypedShared}
+use Rattle.wg_typed.specs.declared.typed.TypedFunction.{TypedFunction}
 use Rattle.wg_typing.specs.declared.scope.Declared.{Declared}
 use Rattle.wg_typing.specs.declared.scope.Meant.{Meant}
 

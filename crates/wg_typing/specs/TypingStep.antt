@@ -17,10 +17,10 @@ use Rattle.wg_tree.specs.declared.stmt.Step.{Step}
 use Rattle.wg_tree.specs.declared.stmt.Step.TheVariants as step
 use Rattle.wg_tree.specs.declared.stmt.StepOperator.{StepOperator}
 use Rattle.wg_tree.specs.declared.stmt.Steps.{Steps}
-use Rattle.wg_tree.specs.declared.typed_stmt.TypedStep.{TypedStep}
-use Rattle.wg_tree.specs.declared.typed_stmt.TypedStep.TheVariants as typed_step
-use Rattle.wg_tree.specs.declared.typed_stmt.TypedStmt.{TypedStmt}
-use Rattle.wg_tree.specs.declared.typed_stmt.TypedStmt.TheVariants as t
+use Rattle.wg_typed.specs.declared.typed_stmt.TypedStep.{TypedStep}
+use Rattle.wg_typed.specs.declared.typed_stmt.TypedStep.TheVariants as typed_step
+use Rattle.wg_typed.specs.declared.typed_stmt.TypedStmt.{TypedStmt}
+use Rattle.wg_typed.specs.declared.typed_stmt.TypedStmt.TheVariants as t
 use Rattle.wg_typing.specs.declared.scope.Act.{Act}
 use Rattle.wg_typing.specs.declared.scope.Act.TheVariants as act
 use Rattle.wg_typing.specs.declared.scope.Declared.{Declared}

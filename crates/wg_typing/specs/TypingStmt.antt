@@ -18,8 +18,8 @@ use Rattle.wg_tree.specs.declared.stmt.Attribute.{Attribute}
 use Rattle.wg_tree.specs.declared.stmt.Header.{Header}
 use Rattle.wg_tree.specs.declared.stmt.Stmt.{Stmt, fold-Stmt}
 use Rattle.wg_tree.specs.declared.stmt.Stmt.TheOpen.{Stmt-F}
-use Rattle.wg_tree.specs.declared.typed_stmt.TypedStmt.{TypedStmt}
-use Rattle.wg_tree.specs.declared.typed_stmt.TypedStmt.TheVariants as t
+use Rattle.wg_typed.specs.declared.typed_stmt.TypedStmt.{TypedStmt}
+use Rattle.wg_typed.specs.declared.typed_stmt.TypedStmt.TheVariants as t
 
 -- what a statement does in its context: the context after it, its sites, and its typed form if it has one
 pub record Walked : Type 0 where

@@ -1,7 +1,7 @@
 -- The typed form of a struct (HLSL Shader Model 6.8, structs; the limit on its words is own).
 use Rattle.std.specs.Prelude.{ℕ, nat_le, List, [], ◌∷◌, ◌++◌, length, map, Option, Some, None}
 use Rattle.wg_typing.specs.Maybe.{◌>>=◌, where_true, all_of}
-use Rattle.wg_tree.specs.Layout.{words_of}
+use Rattle.wg_typed.specs.Layout.{words_of}
 use Rattle.wg_typing.specs.Scope.{Context, named_type}
 use Rattle.wg_typing.specs.TypingAttributes.{attributes_of}
 use Rattle.wg_typing.specs.TypingDeclared.{type_limit, declared_type, declared_sites}
@@ -11,9 +11,9 @@ use Rattle.wg_typing.specs.TypingSoFar.{Text, with_name}
 use Rattle.wg_tree.specs.declared.expr.Named.{Named}
 use Rattle.wg_tree.specs.declared.stmt.Attribute.{Attribute}
 use Rattle.wg_tree.specs.declared.item.Field.{Field}
-use Rattle.wg_tree.specs.declared.types.TypeTree.TheVariants as type
-use Rattle.wg_tree.specs.declared.typed.TypedStruct.{TypedStruct}
-use Rattle.wg_tree.specs.declared.typed.TypedField.{TypedField}
+use Rattle.wg_typed.specs.declared.types.TypeTree.TheVariants as type
+use Rattle.wg_typed.specs.declared.typed.TypedStruct.{TypedStruct}
+use Rattle.wg_typed.specs.declared.typed.TypedField.{TypedField}
 use Rattle.wg_typing.specs.declared.scope.Meant.TheVariants as meant
 
 abbrev pub field_tree : Context → Field → Option TypedField

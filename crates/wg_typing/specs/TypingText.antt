@@ -14,7 +14,7 @@ use Rattle.wg_typing.specs.TypingConstant.{constant_meant, constant_sites}
 use Rattle.wg_typing.specs.TypingFunction.{head_context, parameter_context, function_sites, function_tree, function_meant}
 use Rattle.wg_tree.specs.declared.item.Item.{Item}
 use Rattle.wg_tree.specs.declared.item.Item.TheVariants as item
-use Rattle.wg_tree.specs.declared.typed.Typed.{Typed}
+use Rattle.wg_typed.specs.declared.typed.Typed.{Typed}
 
 abbrev pub item_sites : Text → Item → Sites Site
 item_sites x (item.Struct place attributes name fields) =

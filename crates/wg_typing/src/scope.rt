@@ -1,7 +1,6 @@
 use sqlite_items::Items;
-use wg_tree::{
-    ConstValue, Direction, Named, TypeTree, TypedBufferType, TypedExpr, TypedStep,
-};
+use wg_tree::{Direction, Named};
+use wg_typed::{ConstValue, TypeTree, TypedBufferType, TypedExpr, TypedStep};
 use wg_words::{Name, Place, Words};
 
 /// What a name with methods or elements of its own stands for.

@@ -5,11 +5,11 @@ use Rattle.std.specs.Option.{option_map}
 use Rattle.std.proofs.Math.Nat.{suc-mul}
 use Rattle.std.proofs.lemmas.Bool.{cases_lt}
 use Rattle.std.proofs.lemmas.Option.{slice_get-map}
-use Rattle.wg_tree.specs.declared.types.ElementType.TheVariants as element
-use Rattle.wg_tree.specs.declared.types.TypeTree.{TypeTree}
-use Rattle.wg_tree.specs.declared.types.TypeTree.TheVariants as type
-use Rattle.wg_tree.specs.declared.typed.TypedStruct.{TypedStruct}
-use Rattle.wg_tree.specs.Layout.{type_words, struct_words, sizes_of, words_of}
+use Rattle.wg_typed.specs.declared.types.ElementType.TheVariants as element
+use Rattle.wg_typed.specs.declared.types.TypeTree.{TypeTree}
+use Rattle.wg_typed.specs.declared.types.TypeTree.TheVariants as type
+use Rattle.wg_typed.specs.declared.typed.TypedStruct.{TypedStruct}
+use Rattle.wg_typed.specs.Layout.{type_words, struct_words, sizes_of, words_of}
 use Rattle.wg_layout.specs.Sizes.{capped, table_of}
 
 product : (n s : ℕ) → capped (n * capped s) ≡ capped (n * s)

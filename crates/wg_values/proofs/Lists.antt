@@ -2,16 +2,16 @@
 use Rattle.std.proofs.Common.{◌≡◌, ℕ, zero, suc, ◌+◌, ◌<◌, ◌≤◌, List, [], ◌∷◌, ◌++◌, length, drop, get_or, refl, sym, ap, ◌∙◌, arith, drop-cons, add-one, append-nil}
 use Rattle.std.specs.Prelude.{slice_index, slice_set, min, if◌then◌else◌, map, ◌≢◌}
 use Rattle.std.proofs.lemmas.Option.{slice_get-get_or, slice_get_past}
-use Rattle.wg_tree.specs.declared.state.Grant.{Grant}
-use Rattle.wg_tree.specs.Places.{words_from, over_written, list_at, with_item, Setting, fetched, part_at}
-use Rattle.wg_tree.specs.declared.state.State.{State}
-use Rattle.wg_tree.specs.declared.state.Spot.{Spot}
-use Rattle.wg_tree.specs.declared.state.Spot.TheVariants as spot
-use Rattle.wg_tree.specs.declared.types.TypeTree.{TypeTree}
-use Rattle.wg_tree.specs.Turns.{Done}
-use Rattle.wg_tree.specs.ExprMeaning.{components_of}
-use Rattle.wg_tree.specs.Operators.{pairwise, is_true}
-use Rattle.wg_tree.specs.Intrinsics.{selected}
+use Rattle.wg_state.specs.declared.world.Grant.{Grant}
+use Rattle.wg_semantics.specs.Places.{words_from, over_written, list_at, with_item, Setting, fetched, part_at}
+use Rattle.wg_semantics.specs.declared.state.State.{State}
+use Rattle.wg_semantics.specs.declared.state.Spot.{Spot}
+use Rattle.wg_semantics.specs.declared.state.Spot.TheVariants as spot
+use Rattle.wg_typed.specs.declared.types.TypeTree.{TypeTree}
+use Rattle.wg_state.specs.Turns.{Done}
+use Rattle.wg_semantics.specs.ExprMeaning.{components_of}
+use Rattle.wg_typed.specs.Operators.{pairwise, is_true}
+use Rattle.wg_typed.specs.Intrinsics.{selected}
 
 pub words_from_last : (words : List ℕ) (from i : ℕ) → words_from words from (i + 1) ≡ words_from words from i ++ slice_index words (from + i) ∷ []
 words_from_last words from zero = let e : from + 0 ≡ from = omega arith in rw e refl

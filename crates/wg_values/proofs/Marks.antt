@@ -1,7 +1,7 @@
 -- What is left of a loop over the marks of words.
 use Rattle.std.proofs.Common.{◌≡◌, ℕ, zero, suc, ◌+◌, ◌<◌, List, [], ◌∷◌, ◌++◌, length, drop, refl, sym, ap, ◌∙◌, arith, add-one, append-nil, append_assoc, subst}
 use Rattle.std.specs.Prelude.{Bool, slice_index}
-use Rattle.wg_tree.specs.Truths.{repeated, cleaned}
+use Rattle.wg_semantics.specs.Truths.{repeated, cleaned}
 use Rattle.wg_values.specs.Pieces.{mark_at, clean_word}
 
 commutes : (marks : List Bool) (i : ℕ) → marks ++ repeated i marks ≡ repeated i marks ++ marks

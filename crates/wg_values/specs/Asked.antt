@@ -1,5 +1,5 @@
 -- A request as the program keeps it.
-use Rattle.wg_tree.specs.Requests.{Request}
+use Rattle.wg_state.specs.Requests.{Request}
 use Rattle.wg_values.specs.declared.requests.Request.{Request as Asked}
 
 abbrev pub request_of : Asked → Request

@@ -2,10 +2,10 @@
 use Rattle.std.specs.Prelude.{ℕ, ◌&&◌, ◌||◌}
 use Rattle.wg_words.specs.Words.{sum_of, product_of, set_bits, first_bit_high, first_bit_low, reversed}
 use Rattle.wg_tree.specs.declared.expr.Scalar.{Scalar}
-use Rattle.wg_tree.specs.declared.typed_expr.Intrinsic.{Intrinsic}
-use Rattle.wg_tree.specs.declared.typed_expr.Intrinsic.TheVariants as intrinsic
-use Rattle.wg_tree.specs.Operators.{width_of, is_true, truth}
-use Rattle.wg_tree.specs.Intrinsics.{least, greatest, absolute}
+use Rattle.wg_typed.specs.declared.typed_expr.Intrinsic.{Intrinsic}
+use Rattle.wg_typed.specs.declared.typed_expr.Intrinsic.TheVariants as intrinsic
+use Rattle.wg_typed.specs.Operators.{width_of, is_true, truth}
+use Rattle.wg_typed.specs.Intrinsics.{least, greatest, absolute}
 
 abbrev pub one_word : Intrinsic → Scalar → ℕ → ℕ
 one_word intrinsic.Abs s = absolute s

@@ -1,11 +1,12 @@
 ghost use Rattle.std.specs.Prelude.{◌≡◌, IfOk, if◌then◌else◌, map};
-ghost use Rattle.wg_tree.specs.Operators.{is_true, pairwise};
-ghost use Rattle.wg_tree.specs.Intrinsics.{least, greatest, absolute, is_any_true, are_all_true, selected, argument, called_with};
+ghost use Rattle.wg_typed.specs.Operators.{is_true, pairwise};
+ghost use Rattle.wg_typed.specs.Intrinsics.{least, greatest, absolute, is_any_true, are_all_true, selected, argument, called_with};
 ghost use Rattle.wg_values.specs.PerWord.{one_word, two_words};
 
 use crate::operators::{less, truth_word};
 use std::alloc::{AllocError, Global};
-use wg_tree::{Intrinsic, Scalar};
+use wg_tree::Scalar;
+use wg_typed::Intrinsic;
 use wg_words::{Word, WordLists, Words, add, count_bits, first_high, first_low, mul, reverse, sub};
 
 /// The lesser of two words of a scalar.

@@ -1,11 +1,12 @@
 ghost use Rattle.std.specs.Prelude.{◌≡◌, IfOk, if◌then◌else◌, map, replicate};
-ghost use Rattle.wg_tree.specs.Operators.{scalar_of, is_signed, truth, converted_word, converted, filled, is_less, combined, prefixed, stepped, pairwise};
+ghost use Rattle.wg_typed.specs.Operators.{scalar_of, is_signed, truth, converted_word, converted, filled, is_less, combined, prefixed, stepped, pairwise};
 ghost use Rattle.wg_words.specs.Words.{quotient_s, quotient_u, remainder_s, remainder_u, shifted_right_s, shifted_right_u};
 
 use crate::words::word_at;
 use std::alloc::{AllocError, Global};
 use std::cmp::Ordering;
-use wg_tree::{BinaryOperator, PrefixOperator, Scalar, StepOperator, TypeTree};
+use wg_tree::{BinaryOperator, PrefixOperator, Scalar, StepOperator};
+use wg_typed::TypeTree;
 use wg_words::{
     Word, Words, add, cmp_s, cmp_u, div_s, div_u, mul, rem_s, rem_u, shl, shr_s, shr_u, sub,
 };

@@ -1,9 +1,9 @@
 ghost use Rattle.std.specs.Prelude.{◌≡◌, ℕ, ◌+◌, ◌*◌, ◌/◌, IfOk, slice_get, slice_set, if◌then◌else◌, Some, None};
-ghost use Rattle.wg_tree.specs.Layout.{words_in, words_of};
-ghost use Rattle.wg_tree.specs.Places.{words_from, over_written, list_at, items_in, with_item, stored, fetched, written, part_at, element_at, buffer_element, input_record, granted_record, as_read, owner, latest, is_numbered, grant_of, handle_record};
-ghost use Rattle.wg_tree.specs.Turns.{Done};
-ghost use Rattle.wg_tree.specs.ExprMeaning.{components_of};
-ghost use Rattle.wg_tree.specs.declared.state.Spot.TheVariants as spot;
+ghost use Rattle.wg_typed.specs.Layout.{words_in, words_of};
+ghost use Rattle.wg_semantics.specs.Places.{words_from, over_written, list_at, items_in, with_item, stored, fetched, written, part_at, element_at, buffer_element, input_record, granted_record, as_read, owner, latest, is_numbered, grant_of, handle_record};
+ghost use Rattle.wg_state.specs.Turns.{Done};
+ghost use Rattle.wg_semantics.specs.ExprMeaning.{components_of};
+ghost use Rattle.wg_semantics.specs.declared.state.Spot.TheVariants as spot;
 ghost use Rattle.wg_values.specs.Pieces.{range_of, setting_of};
 
 use crate::structs::{Piece, Structs};
@@ -11,7 +11,9 @@ use crate::truths::clean;
 use crate::words::{cut, pick, write_over, zero_words};
 use std::alloc::{AllocError, Global};
 use std::mem;
-use wg_tree::{Grant, Sender, Spot, State, Store, TypeTree, TypedFunction, TypedHandle};
+use wg_semantics::{Spot, State, Store};
+use wg_state::{Grant, Sender};
+use wg_typed::{TypeTree, TypedFunction, TypedHandle};
 use wg_words::{Items, Word, WordLists, Words};
 
 /// What stays the same while a lane runs a function: the functions before it are those that it may call.

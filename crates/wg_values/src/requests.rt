@@ -1,12 +1,12 @@
 ghost use Rattle.std.specs.Prelude.{◌≡◌, ◌≤◌, IfOk, OnOk, replicate, slice_get, slice_index};
-ghost use Rattle.wg_tree.specs.Places.{zeros};
-ghost use Rattle.wg_tree.specs.Requests.{target_of, budget_of, record_words, requested, whole_or_none, with_grant, taken, denied_once, closed, closed_in, is_granted};
+ghost use Rattle.wg_semantics.specs.Places.{zeros};
+ghost use Rattle.wg_state.specs.Requests.{target_of, budget_of, record_words, requested, whole_or_none, with_grant, taken, denied_once, closed, closed_in, is_granted};
 ghost use Rattle.wg_values.specs.Asked.{request_of};
 
 use crate::words::{set_word, word_at, zero_words};
 use std::alloc::{AllocError, Global};
 use std::mem;
-use wg_tree::{Grant, Sender, World};
+use wg_state::{Grant, Sender, World};
 use wg_words::{Items, WordLists, Words};
 
 /// Who asks for how many records, and where.

@@ -1,13 +1,13 @@
 ghost use Rattle.std.specs.Prelude.{◌≡◌, ◌+◌, IfOk, map, slice_get, unwrap_or};
-ghost use Rattle.wg_tree.specs.Layout.{words_of, sizes_of, field_range, ranges_after, nowhere};
-ghost use Rattle.wg_tree.specs.declared.typed.TypedField.{TypedField as Field};
+ghost use Rattle.wg_typed.specs.Layout.{words_of, sizes_of, field_range, ranges_after, nowhere};
+ghost use Rattle.wg_typed.specs.declared.typed.TypedField.{TypedField as Field};
 ghost use Rattle.wg_values.specs.Pieces.{range_of};
 
 use sqlite_items::Items;
 use std::alloc::{AllocError, Global};
 use std::marker::Model;
 use wg_layout::Sizes;
-use wg_tree::{TypeTree, TypedField, TypedStruct};
+use wg_typed::{TypeTree, TypedField, TypedStruct};
 
 /// The greatest number of words that a type may have.
 const MOST: u32 = 8_192;
@@ -21,7 +21,7 @@ pub struct Structs<'a> {
 
 impl<'a> Model for Structs<'a> {
     ghost use Rattle.std.specs.Prelude.{List, ◌≡◌};
-    ghost use Rattle.wg_tree.specs.declared.typed.TypedStruct.{TypedStruct as Given};
+    ghost use Rattle.wg_typed.specs.declared.typed.TypedStruct.{TypedStruct as Given};
     ghost use Rattle.wg_layout.specs.Sizes.{table_of};
 
     ghost Value = { List Given };

@@ -3,7 +3,8 @@ use crate::requests::{Request, ask};
 use crate::words::word_at;
 use std::alloc::{AllocError, Global};
 use std::test::Fail;
-use wg_tree::{BinaryOperator, Scalar, Sender, World};
+use wg_state::{Sender, World};
+use wg_tree::{BinaryOperator, Scalar};
 use wg_words::{Items, WordLists, Words};
 
 fn sender(alloc: Global) -> Result<Sender, AllocError> {

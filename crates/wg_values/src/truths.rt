@@ -1,12 +1,13 @@
 ghost use Rattle.std.specs.Prelude.{◌≡◌, ◌++◌, [], IfOk, OnOk, map, replicate, slice_get, unwrap_or, false};
-ghost use Rattle.wg_tree.specs.Truths.{is_bool, repeated, element_truths, type_truths, truths_of_all, truths_in, cleaned};
-ghost use Rattle.wg_tree.specs.declared.typed.TypedField.{TypedField as Field};
+ghost use Rattle.wg_semantics.specs.Truths.{is_bool, repeated, element_truths, type_truths, truths_of_all, truths_in, cleaned};
+ghost use Rattle.wg_typed.specs.declared.typed.TypedField.{TypedField as Field};
 ghost use Rattle.wg_values.specs.Pieces.{mark_at, clean_word};
 
 use crate::operators::truth_word;
 use crate::structs::Structs;
 use std::alloc::{AllocError, Global};
-use wg_tree::{ElementType, Scalar, TypeTree, TypedField};
+use wg_tree::Scalar;
+use wg_typed::{ElementType, TypeTree, TypedField};
 use wg_words::{Items, Word, Words};
 
 /// For each word of a type, whether it is a `bool`.

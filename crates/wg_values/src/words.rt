@@ -1,6 +1,6 @@
 ghost use Rattle.std.specs.Prelude.{◌≡◌, ◌+◌, ◌++◌, IfOk, OnOk, map, slice_index, slice_set};
-ghost use Rattle.wg_tree.specs.Places.{words_from, over_written, zeros};
-ghost use Rattle.wg_tree.specs.Layout.{put};
+ghost use Rattle.wg_semantics.specs.Places.{words_from, over_written, zeros};
+ghost use Rattle.wg_typed.specs.Layout.{put};
 
 use std::alloc::{AllocError, Global};
 use wg_words::{Word, WordLists, Words};

@@ -1,13 +1,13 @@
 ghost use Rattle.std.specs.Prelude.{◌≡◌, IfOk};
-ghost use Rattle.wg_tree.specs.Calls.{parameter_words};
-ghost use Rattle.wg_tree.specs.FunctionMeaning.{fresh_locals};
-ghost use Rattle.wg_tree.specs.Layout.{words_of};
-ghost use Rattle.wg_tree.specs.Places.{zeros};
+ghost use Rattle.wg_semantics.specs.Calls.{parameter_words};
+ghost use Rattle.wg_semantics.specs.FunctionMeaning.{fresh_locals};
+ghost use Rattle.wg_typed.specs.Layout.{words_of};
+ghost use Rattle.wg_semantics.specs.Places.{zeros};
 
 use crate::structs::Structs;
 use crate::words::zero_words;
 use std::alloc::{AllocError, Global};
-use wg_tree::{TypeTree, TypedParameterType};
+use wg_typed::{TypeTree, TypedParameterType};
 use wg_words::{WordLists, Words};
 
 /// The words of a parameter; an object has none.

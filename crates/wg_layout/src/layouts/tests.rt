@@ -1,7 +1,8 @@
 use super::*;
 use crate::field::{read_field, write_field};
 use std::test::Fail;
-use wg_tree::{ElementType, Named, Scalar};
+use wg_tree::{Named, Scalar};
+use wg_typed::ElementType;
 use wg_words::{Name, Place};
 
 fn named(alloc: Global) -> Named {

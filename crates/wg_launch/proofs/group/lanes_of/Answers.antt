@@ -1,5 +1,5 @@
 use Rattle.std.proofs.Common.{ap, ◌∙◌}
-use Rattle.wg_tree.specs.LaunchMeaning.{first_frame}
+use Rattle.wg_semantics.specs.LaunchMeaning.{first_frame}
 use Rattle.wg_launch.proofs.LaneRuns.{lanes_more}
 use Rattle.wg_launch.proofs.group.lanes_of.Goals as goal
 

@@ -1,5 +1,5 @@
 use Rattle.std.proofs.Common.{◌≡◌, ◌++◌, ◌-◌}
-use Rattle.wg_tree.specs.LaunchMeaning.{first_frame, first_lanes}
+use Rattle.wg_semantics.specs.LaunchMeaning.{first_frame, first_lanes}
 use Rattle.wg_launch.proofs.group.lanes_of.Given as goal
 
 abbrev pub invariant-loop-lane : goal.invariant-loop-lane

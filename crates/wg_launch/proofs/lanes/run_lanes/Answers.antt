@@ -1,5 +1,5 @@
 use Rattle.std.proofs.Common.{ap, sym, ◌∙◌, subst}
-use Rattle.wg_tree.specs.LaunchMeaning.{entry_bodies, lanes_run}
+use Rattle.wg_semantics.specs.LaunchMeaning.{entry_bodies, lanes_run}
 use Rattle.wg_meaning.specs.Says.{Stops}
 use Rattle.wg_launch.proofs.LaneRuns.{put_before, lanes_next, lanes_stop}
 use Rattle.wg_launch.proofs.lanes.run_lanes.Goals as goal

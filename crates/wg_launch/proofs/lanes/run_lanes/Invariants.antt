@@ -1,5 +1,5 @@
 use Rattle.std.proofs.Common.{◌≡◌}
-use Rattle.wg_tree.specs.LaunchMeaning.{entry_bodies, lanes_run}
+use Rattle.wg_semantics.specs.LaunchMeaning.{entry_bodies, lanes_run}
 use Rattle.wg_launch.proofs.LaneRuns.{put_before}
 use Rattle.wg_launch.proofs.lanes.run_lanes.Given as goal
 

@@ -1,5 +1,5 @@
 use Rattle.std.proofs.Common.{ap, sym, ◌∙◌, arith}
-use Rattle.wg_tree.specs.LaunchMeaning.{entry_bodies, phases_run}
+use Rattle.wg_semantics.specs.LaunchMeaning.{entry_bodies, phases_run}
 use Rattle.wg_launch.proofs.LaneRuns.{phases_on, phases_plain}
 use Rattle.wg_launch.proofs.lanes.run_phases.Goals as goal
 use Rattle.wg_launch.proofs.lanes.run_phases.Goals.{then-is_phase+in-Ok, else-is_phase}

@@ -1,5 +1,5 @@
 use Rattle.std.proofs.Common.{◌≡◌, ◌≤◌, ◌-◌, take, drop}
-use Rattle.wg_tree.specs.LaunchMeaning.{entry_bodies, phases_run, phases_after, phases_of}
+use Rattle.wg_semantics.specs.LaunchMeaning.{entry_bodies, phases_run, phases_after, phases_of}
 use Rattle.wg_launch.proofs.lanes.run_phases.Given as goal
 
 abbrev pub invariant-loop-at : goal.invariant-loop-at

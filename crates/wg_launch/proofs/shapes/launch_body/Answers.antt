@@ -1,6 +1,6 @@
 use Rattle.std.proofs.Common.{subst}
 use Rattle.std.specs.Option.{option_map}
-use Rattle.wg_tree.specs.LaunchMeaning.{made}
+use Rattle.wg_semantics.specs.LaunchMeaning.{made}
 use Rattle.wg_launch.specs.Fit.{outcome_of, group_of, Fits}
 use Rattle.wg_launch.proofs.Answered.{fits}
 use Rattle.wg_launch.proofs.shapes.launch_body.Goals as goal

@@ -1,5 +1,5 @@
 use Rattle.std.proofs.Common.{◌≡◌, map, take}
-use Rattle.wg_tree.specs.LaunchMeaning.{entry_value}
+use Rattle.wg_semantics.specs.LaunchMeaning.{entry_value}
 use Rattle.wg_launch.proofs.start.parameter_values.Given as goal
 
 abbrev pub invariant-loop-p : goal.invariant-loop-p

@@ -1,5 +1,5 @@
 use Rattle.std.proofs.Common.{arith, sym, ap}
-use Rattle.wg_tree.specs.Layout.{words_of}
+use Rattle.wg_typed.specs.Layout.{words_of}
 use Rattle.wg_layout.proofs.Ranges.{fields_end}
 use Rattle.wg_layout.proofs.layouts.fields.Goals as goal
 

@@ -1,5 +1,5 @@
 use Rattle.std.proofs.Common.{arith, ◌≡◌, ap, ◌∙◌}
-use Rattle.wg_tree.specs.Layout.{type_words, sizes_of, words_of}
+use Rattle.wg_typed.specs.Layout.{type_words, sizes_of, words_of}
 use Rattle.wg_layout.specs.Sizes.{capped}
 use Rattle.wg_layout.proofs.Capping.{capped_type}
 use Rattle.wg_layout.proofs.layouts.layout.Goals as goal

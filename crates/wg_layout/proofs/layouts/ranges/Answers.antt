@@ -1,5 +1,5 @@
 use Rattle.std.proofs.Common.{arith}
-use Rattle.wg_tree.specs.Layout.{sizes_of}
+use Rattle.wg_typed.specs.Layout.{sizes_of}
 use Rattle.wg_layout.proofs.Ranges.{field_fits, field_ranged}
 use Rattle.wg_layout.proofs.layouts.ranges.Goals as goal
 

@@ -1,5 +1,5 @@
 use Rattle.std.proofs.Common.{◌≡◌, ◌≤◌, ◌++◌, map, drop}
-use Rattle.wg_tree.specs.Layout.{sizes_of, types_of, end_after, ranges_after}
+use Rattle.wg_typed.specs.Layout.{sizes_of, types_of, end_after, ranges_after}
 use Rattle.wg_layout.specs.Layouts.{range_of}
 use Rattle.wg_layout.proofs.layouts.ranges.Given as goal
 

@@ -1,5 +1,5 @@
 use Rattle.std.proofs.Common.{List, ℕ, sym, ◌∙◌, subst}
-use Rattle.wg_tree.specs.declared.token.TokenKind.TheVariants.{Plain}
+use Rattle.wg_tokens.specs.declared.token.TokenKind.TheVariants.{Plain}
 use Rattle.wg_lex.specs.declared.front.Front.TheVariants.{Token}
 use Rattle.wg_lex.specs.Fronts.{IsFront}
 use Rattle.wg_lex.proofs.FrontAnswers.{front_of_name}

@@ -1,5 +1,5 @@
 use Rattle.std.proofs.Common.{sym, ◌∙◌, ap, rules, codes}
-use Rattle.wg_tree.specs.Characters.{is_among}
+use Rattle.wg_tokens.specs.Characters.{is_among}
 use Rattle.wg_lex.proofs.FrontAnswers.{front_of_number, front_of_long, value_of_numeral}
 use Rattle.wg_lex.proofs.front.number.Goals as goal
 

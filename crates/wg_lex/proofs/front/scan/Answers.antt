@@ -1,5 +1,5 @@
 use Rattle.std.proofs.Common.{sym, ◌∙◌, ap}
-use Rattle.wg_tree.specs.Characters.{is_blank}
+use Rattle.wg_tokens.specs.Characters.{is_blank}
 use Rattle.wg_lex.proofs.FrontAnswers.{front_of_blank}
 use Rattle.wg_lex.proofs.front.scan.Goals as goal
 

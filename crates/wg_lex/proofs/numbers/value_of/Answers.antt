@@ -1,5 +1,5 @@
 use Rattle.std.proofs.Common.{◌+◌, ◌*◌, ◌^◌, ◌≤◌, get_or, arith}
-use Rattle.wg_tree.specs.Characters.{digit_value}
+use Rattle.wg_tokens.specs.Characters.{digit_value}
 use Rattle.wg_lex.proofs.NumberSizes.{wide_worth, none_if_wide}
 use Rattle.wg_lex.proofs.numbers.value_of.Goals as goal
 

@@ -1,5 +1,5 @@
 use Rattle.std.proofs.Common.{◌≡◌, ◌≤◌, ◌-◌, length, take}
-use Rattle.wg_tree.specs.LexicalRules.{most_bytes}
+use Rattle.wg_tokens.specs.LexicalRules.{most_bytes}
 use Rattle.wg_lex.specs.Positions.{position_after}
 use Rattle.wg_lex.proofs.Cutting.{SoFar}
 use Rattle.wg_lex.proofs.text.lex.Given as goal

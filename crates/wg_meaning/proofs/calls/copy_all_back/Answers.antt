@@ -1,5 +1,5 @@
 use Rattle.std.proofs.Common.{arith, sym, ap, ◌∙◌}
-use Rattle.wg_tree.specs.Calls.{all_back}
+use Rattle.wg_semantics.specs.Calls.{all_back}
 use Rattle.wg_meaning.proofs.Calling.{all_back_ends}
 use Rattle.wg_meaning.proofs.calls.copy_all_back.Goals as goal
 

@@ -1,5 +1,5 @@
 use Rattle.std.proofs.Common.{◌≡◌, drop, ℕ}
-use Rattle.wg_tree.specs.Calls.{all_back}
+use Rattle.wg_semantics.specs.Calls.{all_back}
 use Rattle.wg_meaning.proofs.calls.copy_all_back.Given as goal
 
 abbrev pub invariant-loop-at : goal.invariant-loop-at

@@ -1,5 +1,5 @@
 use Rattle.std.proofs.Common.{◌≡◌, map, take}
-use Rattle.wg_tree.specs.declared.state.Passed.{Passed}
+use Rattle.wg_semantics.specs.declared.state.Passed.{Passed}
 use Rattle.wg_meaning.proofs.calls.passed_words.Given as goal
 
 abbrev pub invariant-loop-p : goal.invariant-loop-p

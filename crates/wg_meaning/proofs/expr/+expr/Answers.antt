@@ -1,8 +1,8 @@
 use Rattle.std.proofs.Common.{arith, drop, map, take, sym, ap, ◌∙◌}
 use Rattle.std.specs.Option.{option_copied}
-use Rattle.wg_tree.specs.Turns.{Done}
-use Rattle.wg_tree.specs.Calls.{all_passed}
-use Rattle.wg_tree.specs.ExprMeaning.{seen}
+use Rattle.wg_state.specs.Turns.{Done}
+use Rattle.wg_semantics.specs.Calls.{all_passed}
+use Rattle.wg_semantics.specs.ExprMeaning.{seen}
 use Rattle.wg_values.specs.Pieces.{setting_of}
 use Rattle.wg_meaning.specs.Says.{callees_in}
 use Rattle.wg_meaning.proofs.Calling.{passed_end, calls_nothing, call_stops, run_stops, call_ends}

@@ -1,7 +1,7 @@
 use Rattle.std.proofs.Common.{◌≡◌, ◌≤◌, map, drop}
-use Rattle.wg_tree.specs.Turns.{and_then, each}
-use Rattle.wg_tree.specs.Calls.{value_of, all_passed}
-use Rattle.wg_tree.specs.ExprMeaning.{seen, follows, links, followed, chained}
+use Rattle.wg_state.specs.Turns.{and_then, each}
+use Rattle.wg_semantics.specs.Calls.{value_of, all_passed}
+use Rattle.wg_semantics.specs.ExprMeaning.{seen, follows, links, followed, chained}
 use Rattle.wg_values.specs.Pieces.{setting_of}
 use Rattle.wg_meaning.specs.Says.{callees_in}
 use Rattle.wg_meaning.proofs.Sequences.{gives}

@@ -1,6 +1,6 @@
 use Rattle.std.proofs.Common.{[], sym, ap, subst, ◌∙◌}
 use Rattle.std.specs.Option.{option_copied}
-use Rattle.wg_tree.specs.Turns.{Done}
+use Rattle.wg_state.specs.Turns.{Done}
 use Rattle.wg_values.specs.Pieces.{setting_of}
 use Rattle.wg_meaning.specs.Says.{Says}
 use Rattle.wg_meaning.proofs.Numbered.{nothing_runs, runs_number}

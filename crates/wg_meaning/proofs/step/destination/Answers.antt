@@ -1,5 +1,5 @@
 use Rattle.std.proofs.Common.{sym, subst}
-use Rattle.wg_tree.specs.StepMeaning.{destination_of}
+use Rattle.wg_semantics.specs.StepMeaning.{destination_of}
 use Rattle.wg_values.specs.Pieces.{setting_of}
 use Rattle.wg_meaning.specs.Says.{Says, callees_in}
 use Rattle.wg_meaning.proofs.step.destination.Goals as goal

@@ -1,8 +1,8 @@
 use Rattle.std.proofs.Common.{◌≡◌, ◌≤◌, map, drop}
-use Rattle.wg_tree.specs.Turns.{pure}
-use Rattle.wg_tree.specs.ExprMeaning.{seen, word_of}
-use Rattle.wg_tree.specs.StepMeaning.{steps_do}
-use Rattle.wg_tree.specs.StmtMeaning.{block, does, test_of}
+use Rattle.wg_state.specs.Turns.{pure}
+use Rattle.wg_semantics.specs.ExprMeaning.{seen, word_of}
+use Rattle.wg_semantics.specs.StepMeaning.{steps_do}
+use Rattle.wg_semantics.specs.StmtMeaning.{block, does, test_of}
 use Rattle.wg_values.specs.Pieces.{setting_of}
 use Rattle.wg_meaning.specs.Says.{callees_in}
 use Rattle.wg_meaning.proofs.Loops.{LoopGoesOn}

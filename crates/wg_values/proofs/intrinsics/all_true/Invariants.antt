@@ -1,5 +1,5 @@
 use Rattle.std.proofs.Common.{◌≡◌, drop}
-use Rattle.wg_tree.specs.Intrinsics.{are_all_true}
+use Rattle.wg_typed.specs.Intrinsics.{are_all_true}
 use Rattle.wg_values.proofs.intrinsics.all_true.Given as goal
 
 abbrev pub invariant-loop-x : goal.invariant-loop-x

@@ -1,5 +1,5 @@
 use Rattle.std.proofs.Common.{◌≡◌, ◌++◌, drop}
-use Rattle.wg_tree.specs.Intrinsics.{selected}
+use Rattle.wg_typed.specs.Intrinsics.{selected}
 use Rattle.wg_values.proofs.intrinsics.choose.Given as goal
 
 abbrev pub invariant-loop-at : goal.invariant-loop-at

@@ -1,5 +1,5 @@
 use Rattle.std.proofs.Common.{◌≡◌, ◌++◌, drop}
-use Rattle.wg_tree.specs.Operators.{pairwise}
+use Rattle.wg_typed.specs.Operators.{pairwise}
 use Rattle.wg_values.specs.PerWord.{two_words}
 use Rattle.wg_values.proofs.intrinsics.each_pair.Given as goal
 

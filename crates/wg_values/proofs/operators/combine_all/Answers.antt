@@ -1,5 +1,5 @@
 use Rattle.std.proofs.Common.{arith}
-use Rattle.wg_tree.specs.Operators.{combined}
+use Rattle.wg_typed.specs.Operators.{combined}
 use Rattle.wg_values.proofs.Lists.{nothing_more, pairwise_ends}
 use Rattle.wg_values.proofs.operators.combine_all.Goals as goal
 

@@ -1,5 +1,5 @@
 use Rattle.std.proofs.Common.{◌≡◌, ◌++◌, drop}
-use Rattle.wg_tree.specs.Operators.{combined, pairwise}
+use Rattle.wg_typed.specs.Operators.{combined, pairwise}
 use Rattle.wg_values.proofs.operators.combine_all.Given as goal
 
 abbrev pub invariant-loop-at : goal.invariant-loop-at

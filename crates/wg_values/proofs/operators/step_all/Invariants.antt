@@ -1,5 +1,5 @@
 use Rattle.std.proofs.Common.{◌≡◌, map, take}
-use Rattle.wg_tree.specs.Operators.{stepped}
+use Rattle.wg_typed.specs.Operators.{stepped}
 use Rattle.wg_values.proofs.operators.step_all.Given as goal
 
 abbrev pub invariant-loop-x : goal.invariant-loop-x

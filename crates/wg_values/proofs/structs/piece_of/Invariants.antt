@@ -1,7 +1,7 @@
 use Rattle.std.proofs.Common.{◌≡◌, map, drop}
 use Rattle.std.specs.Prelude.{slice_get, unwrap_or}
-use Rattle.wg_tree.specs.Layout.{sizes_of, ranges_after, nowhere}
-use Rattle.wg_tree.specs.declared.typed.TypedField.{TypedField}
+use Rattle.wg_typed.specs.Layout.{sizes_of, ranges_after, nowhere}
+use Rattle.wg_typed.specs.declared.typed.TypedField.{TypedField}
 use Rattle.wg_values.proofs.structs.piece_of.Given as goal
 
 abbrev pub invariant-loop-field : goal.invariant-loop-field

@@ -1,6 +1,6 @@
 use Rattle.std.proofs.Common.{◌≡◌, ◌++◌, drop, ◌+◌, sym, ap, ◌∙◌, subst}
 use Rattle.std.specs.Prelude.{slice_index}
-use Rattle.wg_tree.specs.Truths.{cleaned}
+use Rattle.wg_semantics.specs.Truths.{cleaned}
 use Rattle.wg_values.specs.Pieces.{clean_word}
 use Rattle.wg_values.proofs.Marks.{cleaned_more}
 use Rattle.wg_values.proofs.truths.clean_all.Goals as goal

@@ -1,5 +1,5 @@
 use Rattle.std.proofs.Common.{◌≡◌, ◌++◌, drop}
-use Rattle.wg_tree.specs.Truths.{cleaned}
+use Rattle.wg_semantics.specs.Truths.{cleaned}
 use Rattle.wg_values.proofs.truths.clean_all.Given as goal
 
 abbrev pub invariant-loop-at : goal.invariant-loop-at

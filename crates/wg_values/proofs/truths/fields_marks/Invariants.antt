@@ -1,6 +1,6 @@
 use Rattle.std.proofs.Common.{◌≡◌, ◌++◌, map, drop}
-use Rattle.wg_tree.specs.Truths.{truths_of_all}
-use Rattle.wg_tree.specs.declared.typed.TypedField.{TypedField}
+use Rattle.wg_semantics.specs.Truths.{truths_of_all}
+use Rattle.wg_typed.specs.declared.typed.TypedField.{TypedField}
 use Rattle.wg_values.proofs.truths.fields_marks.Given as goal
 
 abbrev pub invariant-loop-field : goal.invariant-loop-field

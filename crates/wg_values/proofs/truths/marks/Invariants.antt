@@ -1,5 +1,5 @@
 use Rattle.std.proofs.Common.{◌≡◌, drop, []}
-use Rattle.wg_tree.specs.Truths.{truths_after}
+use Rattle.wg_semantics.specs.Truths.{truths_after}
 use Rattle.wg_values.proofs.truths.marks.Given as goal
 
 abbrev pub invariant-loop-s : goal.invariant-loop-s

@@ -1,5 +1,5 @@
 use Rattle.std.proofs.Common.{◌≡◌}
-use Rattle.wg_tree.specs.Places.{words_from}
+use Rattle.wg_semantics.specs.Places.{words_from}
 use Rattle.wg_values.proofs.words.cut.Given as goal
 
 abbrev pub invariant-loop-i : goal.invariant-loop-i

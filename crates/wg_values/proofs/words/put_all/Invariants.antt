@@ -1,5 +1,5 @@
 use Rattle.std.proofs.Common.{◌≡◌, ◌++◌, drop}
-use Rattle.wg_tree.specs.Layout.{put}
+use Rattle.wg_typed.specs.Layout.{put}
 use Rattle.wg_values.proofs.words.put_all.Given as goal
 
 abbrev pub invariant-loop-part : goal.invariant-loop-part

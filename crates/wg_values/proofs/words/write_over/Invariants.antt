@@ -1,5 +1,5 @@
 use Rattle.std.proofs.Common.{◌≡◌, ◌+◌, drop}
-use Rattle.wg_tree.specs.Places.{over_written}
+use Rattle.wg_semantics.specs.Places.{over_written}
 use Rattle.wg_values.proofs.words.write_over.Given as goal
 
 abbrev pub invariant-loop-i : goal.invariant-loop-i

@@ -1,5 +1,5 @@
 use Rattle.std.proofs.Common.{◌≡◌, take}
-use Rattle.wg_tree.specs.FunctionMeaning.{fresh_locals}
+use Rattle.wg_semantics.specs.FunctionMeaning.{fresh_locals}
 use Rattle.wg_values.proofs.zeros.fresh.Given as goal
 
 abbrev pub invariant-loop-t : goal.invariant-loop-t

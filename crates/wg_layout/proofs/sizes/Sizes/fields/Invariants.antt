@@ -1,5 +1,5 @@
 use Rattle.std.proofs.Common.{◌≡◌, ◌≤◌, drop}
-use Rattle.wg_tree.specs.Layout.{end_after, types_of}
+use Rattle.wg_typed.specs.Layout.{end_after, types_of}
 use Rattle.wg_layout.specs.Sizes.{capped}
 use Rattle.wg_layout.proofs.sizes.Sizes.fields.Given as goal
 

@@ -1,0 +1,169 @@
+-- What an expression does: a fold over one layer of the typed tree into steps of a lane. Evaluation goes from left to right.
+use Rattle.std.specs.Prelude.{ℕ, ◌+◌, ◌/◌, true, false, if◌then◌else◌, List, [], ◌∷◌, map, length, slice_index, Option, Some, None, is_some}
+use Rattle.wg_state.specs.Turns.{Step, ◌>>=◌, pure, read, each}
+use Rattle.wg_tree.specs.declared.expr.BinaryOperator.{BinaryOperator}
+use Rattle.wg_tree.specs.declared.expr.BinaryOperator.TheVariants as binary
+use Rattle.wg_semantics.specs.declared.state.State.{State}
+use Rattle.wg_semantics.specs.declared.state.Store.TheVariants as store
+use Rattle.wg_semantics.specs.declared.state.Spot.{Spot}
+use Rattle.wg_semantics.specs.declared.state.Spot.TheVariants as spot
+use Rattle.wg_typed.specs.declared.types.TypeTree.{TypeTree}
+use Rattle.wg_typed.specs.declared.typed_expr.Access.{Access}
+use Rattle.wg_typed.specs.declared.typed_expr.TypedExpr.{TypedExpr}
+use Rattle.wg_typed.specs.declared.typed_expr.TypedKind.{TypedKind}
+use Rattle.wg_typed.specs.declared.typed_expr.TypedLink.{TypedLink}
+use Rattle.wg_typed.specs.declared.typed_expr.Access.TheFolds.{fold-TypedExpr, fold-TypedKind, fold-Access, fold-TypedLink}
+use Rattle.wg_typed.specs.declared.typed_expr.Access.TheOpen.{TypedExpr-F, TypedKind-F, Access-F, TypedLink-F}
+use Rattle.wg_typed.specs.Layout.{words_of, field_range, put}
+use Rattle.wg_typed.specs.Operators.{scalar_of, is_true, truth, converted, combined, prefixed, pairwise}
+use Rattle.wg_typed.specs.Intrinsics.{called_with}
+use Rattle.wg_semantics.specs.Places.{Setting, fetched, zeros, words_from, list_at, part_at, array_size, element_at, buffer_element, input_record, handle_record}
+use Rattle.wg_state.specs.Requests.{target_of}
+use Rattle.wg_semantics.specs.Calls.{Seen, Callee, callee_at, value_of, called}
+
+-- ---- values
+
+-- the one word of a scalar's value
+abbrev pub word_of : Setting → Seen → Step State ℕ
+word_of setting e = do
+  words ← value_of setting.structs e
+  pure (slice_index words 0)
+
+-- an index that is not written is 0
+abbrev pub index_of : Setting → Option Seen → Step State ℕ
+index_of setting None = pure 0
+index_of setting (Some e) = word_of setting e
+
+abbrev pub when : {A : Type 0} → ℕ → Step State A → Step State A → Step State A
+when word first second = if is_true word then first else second
+
+-- ---- forms after a value
+
+-- a form: what it makes of a value of a type, and the type of that
+pub record Follows : Type 0 where
+  pub of : TypeTree
+  pub after : TypeTree → Spot → Step State Spot
+
+-- one component is a place; several are a value
+abbrev pub components_of : Setting → List ℕ → TypeTree → Spot → Step State Spot
+components_of setting (c ∷ []) t p = pure (part_at (record { from = c; to = c + 1 }) p)
+components_of setting components t p = do
+  words ← read (fetched setting.structs t p)
+  pure (spot.Value (map (slice_index words) components))
+
+-- the index first, then the element
+abbrev pub indexed : Setting → Seen → TypeTree → TypeTree → Spot → Step State Spot
+indexed setting index of t p = do
+  at ← word_of setting index
+  pure (element_at (array_size t) (words_of setting.structs of) at p)
+
+-- the forms, from left to right
+abbrev pub followed : List Follows → TypeTree → Spot → Step State Spot
+followed [] t p = pure p
+followed (f ∷ rest) t p = f.after t p >>= followed rest f.of
+
+-- ---- chains
+
+-- an operator and its right operand: what they make of a value of a type, and the type of that
+pub record Linked : Type 0 where
+  pub of : TypeTree
+  pub next : TypeTree → List ℕ → Step State (List ℕ)
+
+-- `&&` and `||` evaluate only what they need
+abbrev pub operated : Setting → BinaryOperator → TypeTree → Seen → List ℕ → Step State (List ℕ)
+operated setting binary.And t e words = when (slice_index words 0) (value_of setting.structs e) (pure (truth false ∷ []))
+operated setting binary.Or t e words = when (slice_index words 0) (pure (truth true ∷ [])) (value_of setting.structs e)
+operated setting operator t e words = do
+  right ← value_of setting.structs e
+  pure (pairwise (combined operator (scalar_of t)) words right)
+
+-- the left side is converted first, if it is of another type
+abbrev pub linked : Setting → BinaryOperator → Option TypeTree → Seen → TypeTree → List ℕ → Step State (List ℕ)
+linked setting operator None e t words = operated setting operator t e words
+linked setting operator (Some by) e t words = operated setting operator by e (converted t by words)
+
+abbrev pub chained : List Linked → TypeTree → List ℕ → Step State (List ℕ)
+chained [] t words = pure words
+chained (l ∷ rest) t words = l.next t words >>= chained rest l.of
+
+-- ---- one layer of the tree
+
+abbrev pub access_step : Setting → Access-F Follows (TypeTree → Step State Spot) Seen Linked → Follows
+access_step setting (Access-F.Field field of) =
+    record { of = of; after = λ t p. pure (part_at (field_range setting.structs t field) p) }
+access_step setting (Access-F.Components components of) = record { of = of; after = components_of setting components }
+access_step setting (Access-F.Index index of) = record { of = of; after = indexed setting index of }
+
+abbrev pub link_step : Setting → TypedLink-F Follows (TypeTree → Step State Spot) Seen Linked → Linked
+link_step setting l = record { of = l.of; next = linked setting l.operator l.before l.operand }
+
+abbrev pub expr_step : TypedExpr-F Follows (TypeTree → Step State Spot) Seen Linked → Seen
+expr_step e = record { of = e.of; spot = e.kind e.of }
+
+abbrev pub valued : Step State (List ℕ) → Step State Spot
+valued m = m >>= (λ words. pure (spot.Value words))
+
+abbrev pub kind_step : Setting → List Callee → TypedKind-F Follows (TypeTree → Step State Spot) Seen Linked → TypeTree → Step State Spot
+kind_step setting callees (TypedKind-F.Literal words) t = pure (spot.Value words)
+kind_step setting callees (TypedKind-F.Local local) t = pure (spot.At (store.Local local) 0)
+kind_step setting callees (TypedKind-F.Parameter parameter) t = pure (spot.At (store.Parameter parameter) 0)
+kind_step setting callees (TypedKind-F.Shared variable) t = pure (spot.At (store.Shared variable) 0)
+kind_step setting callees (TypedKind-F.Element buffer index) t = do
+  at ← value_of setting.structs index
+  read (buffer_element buffer (words_of setting.structs t) (slice_index at 0))
+kind_step setting callees (TypedKind-F.Load buffer address) t = do
+  at ← value_of setting.structs address
+  valued (read (λ s. words_from (list_at s.world.buffers buffer) (slice_index at 0 / 4) (words_of setting.structs t)))
+kind_step setting callees (TypedKind-F.Input index) t = do
+  at ← index_of setting index
+  read (input_record at)
+kind_step setting callees TypedKind-F.Count t = valued (read (λ s. length s.world.inputs ∷ []))
+kind_step setting callees (TypedKind-F.Handle handle index) t = do
+  at ← index_of setting index
+  read (handle_record setting handle at)
+kind_step setting callees (TypedKind-F.IsValid output element) t = do
+  at ← index_of setting element
+  pure (spot.Value (truth (is_some (target_of setting.outputs output at)) ∷ []))
+kind_step setting callees TypedKind-F.Levels t = pure (spot.Value (setting.level ∷ []))
+kind_step setting callees TypedKind-F.Zeros t = pure (spot.Value (zeros (words_of setting.structs t)))
+kind_step setting callees (TypedKind-F.Access base forms) t = base.spot >>= followed forms base.of
+kind_step setting callees (TypedKind-F.Prefix operator operand) t = do
+  words ← value_of setting.structs operand
+  pure (spot.Value (map (prefixed operator (scalar_of t)) words))
+kind_step setting callees (TypedKind-F.Convert operand) t = do
+  words ← value_of setting.structs operand
+  pure (spot.Value (converted operand.of t words))
+kind_step setting callees (TypedKind-F.Chain first rest) t = do
+  words ← value_of setting.structs first
+  valued (chained rest first.of words)
+kind_step setting callees (TypedKind-F.Choice test first other) t = do
+  c ← value_of setting.structs test
+  valued (when (slice_index c 0) (value_of setting.structs first) (value_of setting.structs other))
+kind_step setting callees (TypedKind-F.Construct parts) t = do
+  values ← each (map (value_of setting.structs) parts)
+  pure (spot.Value (put values))
+kind_step setting callees (TypedKind-F.Call function arguments) t =
+    valued (called setting.structs (callee_at callees function) arguments)
+kind_step setting callees (TypedKind-F.Intrinsic call arguments) t = do
+  values ← each (map (value_of setting.structs) arguments)
+  pure (spot.Value (called_with call (scalar_of t) values))
+
+-- ---- whole trees, where the functions before have these meanings
+
+-- what an expression is
+abbrev pub seen : Setting → List Callee → TypedExpr → Seen
+seen setting callees =
+    fold-TypedExpr Follows (TypeTree → Step State Spot) Seen Linked (access_step setting) (kind_step setting callees) expr_step (link_step setting)
+
+-- what an expression of a kind does, by its type
+abbrev pub kind_does : Setting → List Callee → TypedKind → TypeTree → Step State Spot
+kind_does setting callees =
+    fold-TypedKind Follows (TypeTree → Step State Spot) Seen Linked (access_step setting) (kind_step setting callees) expr_step (link_step setting)
+
+abbrev pub follows : Setting → List Callee → Access → Follows
+follows setting callees =
+    fold-Access Follows (TypeTree → Step State Spot) Seen Linked (access_step setting) (kind_step setting callees) expr_step (link_step setting)
+
+abbrev pub links : Setting → List Callee → TypedLink → Linked
+links setting callees =
+    fold-TypedLink Follows (TypeTree → Step State Spot) Seen Linked (access_step setting) (kind_step setting callees) expr_step (link_step setting)

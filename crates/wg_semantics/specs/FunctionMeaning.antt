@@ -1,0 +1,49 @@
+-- What a plain function does, from what the functions before it do: its locals are zeros, and its result is what it returns, or zeros.
+use Rattle.std.specs.Prelude.{ℕ, List, [], ◌∷◌, ◌++◌, map, Option, Some, None}
+use Rattle.wg_state.specs.Turns.{Outcome, Spent, Done, Step}
+use Rattle.wg_semantics.specs.declared.state.State.{State}
+use Rattle.wg_state.specs.declared.world.World.{World}
+use Rattle.wg_semantics.specs.declared.state.Flow.{Flow}
+use Rattle.wg_semantics.specs.declared.state.Flow.TheVariants as flow
+use Rattle.wg_typed.specs.declared.types.TypeTree.{TypeTree}
+use Rattle.wg_typed.specs.declared.typed.TypedFunction.{TypedFunction}
+use Rattle.wg_typed.specs.declared.typed.TypedStruct.{TypedStruct}
+use Rattle.wg_typed.specs.Layout.{words_of}
+use Rattle.wg_semantics.specs.Places.{Setting, zeros}
+use Rattle.wg_semantics.specs.Calls.{Callee}
+use Rattle.wg_semantics.specs.StmtMeaning.{body_does}
+
+-- the values of locals of these types before they are declared
+abbrev pub fresh_locals : List TypedStruct → List TypeTree → List (List ℕ)
+fresh_locals structs types = map (λ t. zeros (words_of structs t)) types
+
+-- `void` has no words
+abbrev pub result_words : List TypedStruct → Option TypeTree → ℕ
+result_words structs None = 0
+result_words structs (Some t) = words_of structs t
+
+abbrev pub result_of : ℕ → Flow → List ℕ
+result_of n flow.Next = zeros n
+result_of n flow.Broke = zeros n
+result_of n flow.Continued = zeros n
+result_of n (flow.Returned words) = words
+
+abbrev pub leaves : ℕ → Outcome State Flow → Outcome World (List ℕ × List (List ℕ))
+leaves n Spent = Spent
+leaves n (Done end s t) = Done (result_of n end, s.frame.parameters) s.world t
+
+abbrev pub function_does : Setting → List Callee → TypedFunction → List (List ℕ) → Step World (List ℕ × List (List ℕ))
+function_does setting callees f values = λ w t.
+    leaves (result_words setting.structs f.result)
+    (body_does setting callees f.body (record { frame = record { parameters = values; locals = fresh_locals setting.structs f.locals }; world = w }) t)
+
+abbrev pub callee_of : Setting → List Callee → TypedFunction → Callee
+callee_of setting callees f = record { parameters = f.parameters; does = function_does setting callees f }
+
+-- the meanings of all functions, where each calls only those before it
+abbrev pub callees_after : Setting → List Callee → List TypedFunction → List Callee
+callees_after setting callees [] = callees
+callees_after setting callees (f ∷ rest) = callees_after setting (callees ++ callee_of setting callees f ∷ []) rest
+
+abbrev pub callees_of : Setting → List TypedFunction → List Callee
+callees_of setting functions = callees_after setting [] functions

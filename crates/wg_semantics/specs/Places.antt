@@ -1,0 +1,157 @@
+-- Where values stand, and how they are read and written there. Reading outside gives zeros, and writing there does nothing; own.
+use Rattle.std.specs.Prelude.{ℕ, zero, suc, ◌+◌, ◌*◌, Bool, false, nat_lt, nat_le, ◌&&◌, ◌==◌, if◌then◌else◌, List, [], ◌∷◌, length, replicate, slice_get, slice_index, slice_set, Option, Some, None, unwrap_or}
+use Rattle.wg_semantics.specs.declared.state.Frame.{Frame}
+use Rattle.wg_state.specs.declared.world.World.{World}
+use Rattle.wg_semantics.specs.declared.state.State.{State}
+use Rattle.wg_state.specs.declared.world.Grant.{Grant}
+use Rattle.wg_state.specs.declared.world.Sender.{Sender}
+use Rattle.wg_semantics.specs.declared.state.Store.{Store}
+use Rattle.wg_semantics.specs.declared.state.Store.TheVariants as store
+use Rattle.wg_semantics.specs.declared.state.Spot.{Spot}
+use Rattle.wg_semantics.specs.declared.state.Spot.TheVariants as spot
+use Rattle.wg_typed.specs.declared.types.TypeTree.{TypeTree}
+use Rattle.wg_typed.specs.declared.types.TypeTree.TheVariants as type
+use Rattle.wg_typed.specs.declared.typed.TypedStruct.{TypedStruct}
+use Rattle.wg_typed.specs.declared.typed.TypedHandle.{TypedHandle}
+use Rattle.wg_typed.specs.Layout.{Range, words_of, words_in}
+use Rattle.wg_semantics.specs.Truths.{truths_in, cleaned}
+
+-- what stays the same while a lane runs: the text's structs, the entry function's handles, its unit's outputs and level, and the lane's number
+pub record Setting : Type 0 where
+  pub structs : List TypedStruct
+  pub handles : List TypedHandle
+  pub outputs : List Sender
+  pub level : ℕ
+  pub lane : ℕ
+
+-- ---- words
+
+-- so many words from one on; 0 behind the end
+abbrev pub words_from : List ℕ → ℕ → ℕ → List ℕ
+words_from words from zero = []
+words_from words from (suc n) = slice_index words from ∷ words_from words (suc from) n
+
+-- the words with others written over them from one on; behind the end nothing is written
+abbrev pub over_written : List ℕ → ℕ → List ℕ → List ℕ
+over_written words from [] = words
+over_written words from (v ∷ values) = over_written (slice_set words from v) (suc from) values
+
+abbrev pub zeros : ℕ → List ℕ
+zeros n = replicate n 0
+
+abbrev pub list_at : List (List ℕ) → ℕ → List ℕ
+list_at lists at = unwrap_or (slice_get lists at) []
+
+-- ---- stores
+
+abbrev pub items_in : Option Grant → List (List ℕ)
+items_in None = []
+items_in (Some g) = g.items
+
+abbrev pub with_item_in : Option Grant → ℕ → List ℕ → List Grant → ℕ → List Grant
+with_item_in None item words grants at = grants
+with_item_in (Some g) item words grants at = slice_set grants at (record g { items = slice_set g.items item words })
+
+abbrev pub with_item : List Grant → ℕ → ℕ → List ℕ → List Grant
+with_item grants at item words = with_item_in (slice_get grants at) item words grants at
+
+abbrev pub stored : Store → State → List ℕ
+stored (store.Local local) s = list_at s.frame.locals local
+stored (store.Parameter parameter) s = list_at s.frame.parameters parameter
+stored (store.Shared variable) s = list_at s.world.shared variable
+stored (store.Buffer buffer) s = list_at s.world.buffers buffer
+stored (store.Input number) s = list_at s.world.inputs number
+stored (store.Granted grant item) s = list_at (items_in (slice_get s.world.grants grant)) item
+
+abbrev pub in_frame : (Frame → Frame) → State → State
+in_frame f s = record s { frame = f s.frame }
+
+abbrev pub in_world : (World → World) → State → State
+in_world f s = record s { world = f s.world }
+
+-- the state where a store has these words
+abbrev pub with_stored : Store → List ℕ → State → State
+with_stored (store.Local local) words = in_frame (λ f. record f { locals = slice_set f.locals local words })
+with_stored (store.Parameter parameter) words = in_frame (λ f. record f { parameters = slice_set f.parameters parameter words })
+with_stored (store.Shared variable) words = in_world (λ w. record w { shared = slice_set w.shared variable words })
+with_stored (store.Buffer buffer) words = in_world (λ w. record w { buffers = slice_set w.buffers buffer words })
+with_stored (store.Input number) words = in_world (λ w. record w { inputs = slice_set w.inputs number words })
+with_stored (store.Granted grant item) words = in_world (λ w. record w { grants = with_item w.grants grant item words })
+
+-- ---- reading and writing
+
+-- a `bool` of a buffer is made 0 or 1 as it is read
+abbrev pub as_read : Store → List TypedStruct → TypeTree → List ℕ → List ℕ
+as_read (store.Buffer buffer) structs t words = cleaned (truths_in structs t) words
+as_read _ structs t words = words
+
+-- the words of a value of the type
+abbrev pub fetched : List TypedStruct → TypeTree → Spot → State → List ℕ
+fetched structs t (spot.Value words) s = words
+fetched structs t (spot.At store from) s = as_read store structs t (words_from (stored store s) from (words_of structs t))
+fetched structs t spot.Nowhere s = zeros (words_of structs t)
+
+abbrev pub written : Spot → List ℕ → State → State
+written (spot.Value words) values s = s
+written (spot.At store from) values s = with_stored store (over_written (stored store s) from values) s
+written spot.Nowhere values s = s
+
+-- ---- parts
+
+-- the part of a value that stands in a range of its words
+abbrev pub part_at : Range → Spot → Spot
+part_at r (spot.Value words) = spot.Value (words_in r words)
+part_at r (spot.At store from) = spot.At store (from + r.from)
+part_at r spot.Nowhere = spot.Nowhere
+
+abbrev pub array_size : TypeTree → ℕ
+array_size (type.Array of size) = size
+array_size _ = 0
+
+-- an element of an array; its type has so many words
+abbrev pub element_at : ℕ → ℕ → ℕ → Spot → Spot
+element_at size words at p = if nat_lt at size then part_at (record { from = at * words; to = (at + 1) * words }) p else spot.Nowhere
+
+-- an element of a structured buffer is in range where all its words are
+abbrev pub buffer_element : ℕ → ℕ → ℕ → State → Spot
+buffer_element buffer words at s =
+    if nat_le ((at + 1) * words) (length (list_at s.world.buffers buffer)) then spot.At (store.Buffer buffer) (at * words) else spot.Nowhere
+
+abbrev pub input_record : ℕ → State → Spot
+input_record at s = if nat_lt at (length s.world.inputs) then spot.At (store.Input at) 0 else spot.Nowhere
+
+-- ---- the records of a handle
+
+-- the lane whose requests a handle stands for: a group handle's is 0
+abbrev pub owner_of : Option TypedHandle → ℕ → ℕ
+owner_of None lane = lane
+owner_of (Some h) lane = if h.group then 0 else lane
+
+abbrev pub owner : Setting → ℕ → ℕ
+owner setting handle = owner_of (slice_get setting.handles handle) setting.lane
+
+abbrev pub is_numbered : Option ℕ → ℕ → Bool
+is_numbered None n = false
+is_numbered (Some m) n = m == n
+
+-- the last grant of a handle's lane, by its number, counted from one on
+abbrev pub latest : ℕ → ℕ → ℕ → Option ℕ → List Grant → Option ℕ
+latest handle lane at found [] = found
+latest handle lane at found (g ∷ grants) =
+    latest handle lane (suc at) (if is_numbered g.handle handle && (g.lane == lane) then Some at else found) grants
+
+abbrev pub grant_of : Setting → ℕ → State → Option ℕ
+grant_of setting handle s = latest handle (owner setting handle) 0 None s.world.grants
+
+-- a record of an open grant; after its `OutputComplete` a handle has none
+abbrev pub granted_record : ℕ → ℕ → Option Grant → Spot
+granted_record grant at None = spot.Nowhere
+granted_record grant at (Some g) =
+    if g.complete then spot.Nowhere else if nat_lt at (length g.items) then spot.At (store.Granted grant at) 0 else spot.Nowhere
+
+abbrev pub handle_record_in : Option ℕ → ℕ → State → Spot
+handle_record_in None at s = spot.Nowhere
+handle_record_in (Some grant) at s = granted_record grant at (slice_get s.world.grants grant)
+
+abbrev pub handle_record : Setting → ℕ → ℕ → State → Spot
+handle_record setting handle at s = handle_record_in (grant_of setting handle s) at s

@@ -1,0 +1,91 @@
+use wg_state::{Sender, World};
+use wg_words::{Items, Word, WordLists, Words};
+
+/// The values of a function's parameters and locals, each by its words.
+#[derive(Debug, Drop)]
+pub struct Frame {
+    pub parameters: WordLists,
+    pub locals: WordLists,
+}
+
+/// What a lane reads and writes.
+#[derive(Debug, Drop)]
+pub struct State {
+    pub frame: Frame,
+    pub world: World,
+}
+
+/// A lane between two phases; one that has returned runs no more.
+#[derive(Debug, Drop)]
+pub struct Lane {
+    pub frame: Frame,
+    pub returned: bool,
+}
+
+/// What holds words: a variable, a buffer, an input record, or a record of a grant, each by its number.
+#[derive(Clone, Copy, Debug, PartialEq, Eq)]
+pub enum Store {
+    Local { local: u32 },
+    Parameter { parameter: u32 },
+    Shared { variable: u32 },
+    Buffer { buffer: u32 },
+    Input { record: u32 },
+    Granted { grant: u64, item: u32 },
+}
+
+/// What an expression gives: words, or the place where they stand, which an index may put outside.
+#[derive(Debug, Drop)]
+pub enum Spot {
+    Value { words: Words },
+    At { store: Store, from: u64 },
+    Nowhere,
+}
+
+/// A value that is passed to a function, and the place to which it is copied back, if any.
+#[derive(Debug, Drop)]
+pub struct Passed {
+    pub words: Words,
+    pub back: Option<Spot>,
+}
+
+/// How a statement ends.
+#[derive(Debug, Drop)]
+pub enum Flow {
+    Next,
+    Broke,
+    Continued,
+    Returned { words: Words },
+}
+
+/// A node at one recursion level: its function, its threads x y z, its budgets and its outputs.
+#[derive(Debug, Drop)]
+pub struct NodeUnit {
+    pub function: u32,
+    pub threads: [Word; 3],
+    pub level: u32,
+    pub budgets: Words,
+    pub outputs: Items<Sender>,
+}
+
+/// A thread group, by its coordinates, with the words of its records.
+#[derive(Debug, Drop)]
+pub struct Group {
+    pub at: [Word; 3],
+    pub records: WordLists,
+}
+
+/// A record that a launch sends, for a unit.
+#[derive(Debug, Drop)]
+pub struct SentRecord {
+    pub unit: u32,
+    pub words: Words,
+}
+
+/// What a launch that is not spent did.
+#[derive(Debug, Drop)]
+pub struct Launched {
+    pub sent: Items<SentRecord>,
+    pub denied: u64,
+    pub turns: u64,
+    pub buffers: WordLists,
+}

@@ -116,7 +116,7 @@ pub trait TryCopy: Drop {
 
 impl<T: TryCopy> TryCopy for Items<T> {
     fn copy(&self, alloc: Global) -> Result<Self, AllocError> {
-        let mut items = Vec::new(alloc);
+        let mut items = Vec::with_capacity(alloc, self.items.len())?;
         for item in &self.items {
             items.push(item.copy(alloc)?)?;
         }

@@ -12,10 +12,10 @@ use Rattle.wg_words.specs.Each.{Each}
 use Rattle.wg_machine.specs.declared.shape.Shape.{Shape}
 use Rattle.wg_machine.specs.declared.launch.Entry.{Entry}
 use Rattle.wg_machine.specs.GoodShape.{is_identifier}
-use Rattle.wg_journal.specs.declared.journal.Done.{Done}
-use Rattle.wg_journal.specs.declared.journal.BufferLine.{BufferLine}
-use Rattle.wg_journal.specs.declared.journal.Stop.{Stop}
-use Rattle.wg_journal.specs.declared.journal.Stop.TheVariants.{Turns, Launches}
+use Rattle.wg_machine.specs.declared.journal.Done.{Done}
+use Rattle.wg_machine.specs.declared.journal.BufferLine.{BufferLine}
+use Rattle.wg_machine.specs.declared.journal.Stop.{Stop}
+use Rattle.wg_machine.specs.declared.journal.Stop.TheVariants.{Turns, Launches}
 use Rattle.wg_journal.specs.declared.lines.Taken.{Taken}
 use Rattle.wg_journal.specs.declared.lines.Line.{Line}
 use Rattle.wg_journal.specs.declared.lines.Line.TheVariants as lines

@@ -8,12 +8,12 @@ use denote.Ref.{Bor}
 use Rattle.wg_machine.specs.declared.launch.Entry.{Entry}
 use Rattle.wg_machine.specs.GoodShape.{is_digit, is_identifier}
 use Rattle.wg_text.specs.Cut.{cut}
-use Rattle.wg_journal.specs.declared.journal.Done.{Done}
-use Rattle.wg_journal.specs.declared.journal.BufferLine.{BufferLine}
-use Rattle.wg_journal.specs.declared.journal.Stop.{Stop}
-use Rattle.wg_journal.specs.declared.journal.Stop.TheVariants.{Turns, Launches}
-use Rattle.wg_journal.specs.declared.journal.Tail.{Tail}
-use Rattle.wg_journal.specs.declared.journal.Journal.{Journal}
+use Rattle.wg_machine.specs.declared.journal.Done.{Done}
+use Rattle.wg_machine.specs.declared.journal.BufferLine.{BufferLine}
+use Rattle.wg_machine.specs.declared.journal.Stop.{Stop}
+use Rattle.wg_machine.specs.declared.journal.Stop.TheVariants.{Turns, Launches}
+use Rattle.wg_machine.specs.declared.journal.Tail.{Tail}
+use Rattle.wg_machine.specs.declared.journal.Journal.{Journal}
 use Rattle.wg_journal.specs.declared.refusal.Refusal.{Refusal}
 use Rattle.wg_journal.specs.declared.refusal.Refusal.TheVariants as refusals
 use Rattle.wg_journal.specs.declared.lines.Line.{Line}

@@ -4,14 +4,14 @@ use Rattle.wg_words.specs.Each.{Each}
 use Rattle.wg_machine.specs.declared.shape.Shape.{Shape}
 use Rattle.wg_machine.specs.declared.launch.Entry.{Entry}
 use Rattle.wg_machine.specs.GoodShape.{is_identifier}
-use Rattle.wg_journal.specs.declared.journal.JournalFault.{JournalFault}
-use Rattle.wg_journal.specs.declared.journal.JournalFault.TheVariants as faults
-use Rattle.wg_journal.specs.declared.journal.Done.{Done}
-use Rattle.wg_journal.specs.declared.journal.BufferLine.{BufferLine}
-use Rattle.wg_journal.specs.declared.journal.Stop.{Stop}
-use Rattle.wg_journal.specs.declared.journal.Stop.TheVariants.{Turns, Launches}
-use Rattle.wg_journal.specs.declared.journal.Tail.{Tail}
-use Rattle.wg_journal.specs.declared.journal.Journal.{Journal}
+use Rattle.wg_journal.specs.declared.fault.JournalFault.{JournalFault}
+use Rattle.wg_journal.specs.declared.fault.JournalFault.TheVariants as faults
+use Rattle.wg_machine.specs.declared.journal.Done.{Done}
+use Rattle.wg_machine.specs.declared.journal.BufferLine.{BufferLine}
+use Rattle.wg_machine.specs.declared.journal.Stop.{Stop}
+use Rattle.wg_machine.specs.declared.journal.Stop.TheVariants.{Turns, Launches}
+use Rattle.wg_machine.specs.declared.journal.Tail.{Tail}
+use Rattle.wg_machine.specs.declared.journal.Journal.{Journal}
 use Rattle.wg_journal.specs.Texts.{report_text}
 
 abbrev pub is_below : List ℕ → ℕ → Bool

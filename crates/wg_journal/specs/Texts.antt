@@ -7,12 +7,12 @@ use Rattle.wg_machine.specs.declared.shape.Shape.{Shape}
 use Rattle.wg_machine.specs.declared.shape.Unit.{Unit}
 use Rattle.wg_machine.specs.declared.shape.NodeName.{NodeName}
 use Rattle.wg_machine.specs.declared.launch.Entry.{Entry}
-use Rattle.wg_journal.specs.declared.journal.Done.{Done}
-use Rattle.wg_journal.specs.declared.journal.BufferLine.{BufferLine}
-use Rattle.wg_journal.specs.declared.journal.Stop.{Stop}
-use Rattle.wg_journal.specs.declared.journal.Stop.TheVariants.{Turns, Launches}
-use Rattle.wg_journal.specs.declared.journal.Tail.{Tail}
-use Rattle.wg_journal.specs.declared.journal.Journal.{Journal}
+use Rattle.wg_machine.specs.declared.journal.Done.{Done}
+use Rattle.wg_machine.specs.declared.journal.BufferLine.{BufferLine}
+use Rattle.wg_machine.specs.declared.journal.Stop.{Stop}
+use Rattle.wg_machine.specs.declared.journal.Stop.TheVariants.{Turns, Launches}
+use Rattle.wg_machine.specs.declared.journal.Tail.{Tail}
+use Rattle.wg_machine.specs.declared.journal.Journal.{Journal}
 
 -- a space and a number in decimal
 abbrev pub spaced : ℕ → List ℕ

@@ -1,6 +1,6 @@
 ghost use Rattle.std.specs.Prelude.{◌≡◌, ℕ, List, IfOk, Some, None, Err};
 ghost use Rattle.wg_machine.specs.GoodShape.{IsGoodShape};
-ghost use Rattle.wg_journal.specs.declared.journal.Journal.{Journal as Report};
+ghost use Rattle.wg_machine.specs.declared.journal.Journal.{Journal as Report};
 ghost use Rattle.wg_journal.specs.Names.{unit_in};
 ghost use Rattle.wg_journal.specs.Reading.{Extends, Steps, is_open as is_open_tail, extended, step};
 ghost use Rattle.wg_journal.specs.Report.{IsReport, IsFirstBadLine, ReadsAs};
@@ -15,13 +15,11 @@ use std::alloc::Global;
 use wg_machine::{EntryList, Shape};
 use wg_text::cut;
 
-impl Tail {
-    /// Whether launches may still follow.
-    fn is_open(&self) -> bool
-        ensures { result ≡ is_open_tail self.now }
-    {
-        self.done.is_none() && self.stop.is_none()
-    }
+/// Whether launches may still follow.
+fn is_open(tail: &Tail) -> bool
+    ensures { result ≡ is_open_tail tail.now }
+{
+    tail.done.is_none() && tail.stop.is_none()
 }
 
 /// Adds a line to a journal, where it may follow. After an error the journal is only dropped.
@@ -29,10 +27,10 @@ fn extend(journal: &mut Journal, line: Line) -> Result<(), Refusal>
     ensures { Extends result journal.new (extended journal.old line) }
 {
     match line {
-        Line::Launch(entry) if journal.tail.is_open() => journal.entries.push(entry)?,
-        Line::Done(done) if journal.tail.is_open() => journal.tail.done = Some(done),
+        Line::Launch(entry) if is_open(&journal.tail) => journal.entries.push(entry)?,
+        Line::Done(done) if is_open(&journal.tail) => journal.tail.done = Some(done),
         Line::Buffer(buffer) if journal.tail.done.is_some() => journal.tail.buffers.push(buffer)?,
-        Line::Stop(stop) if journal.tail.is_open() => journal.tail.stop = Some(stop),
+        Line::Stop(stop) if is_open(&journal.tail) => journal.tail.stop = Some(stop),
         _ => return Err(Refusal::Form),
     }
     Ok(())

@@ -2,12 +2,14 @@
 #![tactic(auto)]
 
 mod bodies;
+mod journal;
 mod launch;
 mod laws;
 mod memory;
 mod shape;
 
 pub use bodies::{Bodies, Halt};
+pub use journal::{BufferLine, BufferLines, Done, Journal, Stop, Tail};
 pub use launch::{
     Bag, Entries, Entry, EntryList, Groups, Launch, Limits, Live, Made, Record, Records, Sent,
     SentList,

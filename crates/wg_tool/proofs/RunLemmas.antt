@@ -28,7 +28,7 @@ use Rattle.wg_machine.specs.Units.{words_at}
 use Rattle.wg_core.specs.declared.report.Report.{Report}
 use Rattle.wg_core.specs.Standing.{StandsFor}
 use Rattle.wg_core.specs.Tables.{IsIdle}
-use Rattle.wg_journal.specs.declared.journal.Done.{Done}
+use Rattle.wg_machine.specs.declared.journal.Done.{Done}
 use Rattle.wg_tool.specs.declared.pair.Pair.{Pair}
 use Rattle.wg_tool.specs.Report.{IsReport, report_text, done_in}
 use Rattle.wg_tool.specs.Running.{IsOnlyOut, RanOne, IsShort}

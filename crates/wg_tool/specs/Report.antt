@@ -10,7 +10,7 @@ use Rattle.wg_machine.specs.Run.{IsRun, IsComplete, EachState, EachOnce, all_bor
 use Rattle.wg_machine.specs.State.{State, start}
 use Rattle.wg_machine.specs.Step.{Passed}
 use Rattle.wg_core.specs.declared.report.Report.{Report}
-use Rattle.wg_journal.specs.declared.journal.Done.{Done}
+use Rattle.wg_machine.specs.declared.journal.Done.{Done}
 use Rattle.wg_journal.specs.Texts.{launch_lines, done_line}
 use Rattle.wg_tool.specs.declared.limits.TheConstants.{TURNS}
 

@@ -2,9 +2,9 @@ use Rattle.std.proofs.Common.{◌≡◌, ◌≢◌, ◌∙◌, ◌++◌, ℕ, tr
 use Rattle.std.specs.Prelude.{◌==◌}
 use Rattle.std.proofs.lemmas.Bool.Decides.{nat_tests}
 use Rattle.std.proofs.lemmas.List.{append-nil}
-use Rattle.wg_journal.specs.declared.journal.Journal.{Journal}
-use Rattle.wg_journal.specs.declared.journal.JournalFault.{JournalFault}
-use Rattle.wg_journal.specs.declared.journal.JournalFault.TheVariants as faults
+use Rattle.wg_machine.specs.declared.journal.Journal.{Journal}
+use Rattle.wg_journal.specs.declared.fault.JournalFault.{JournalFault}
+use Rattle.wg_journal.specs.declared.fault.JournalFault.TheVariants as faults
 use Rattle.wg_journal.specs.Names.{unit_in}
 use Rattle.wg_journal.specs.Reading.{step}
 use Rattle.wg_journal.specs.Report.{lines_in}

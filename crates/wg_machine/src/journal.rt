@@ -1,8 +1,4 @@
-ghost use Rattle.std.specs.Prelude.{◌≡◌};
-ghost use Rattle.wg_journal.specs.declared.journal.JournalFault.TheVariants.{Memory};
-
-use std::alloc::AllocError;
-use wg_machine::EntryList;
+use crate::EntryList;
 use wg_words::{Items, Name, Numbers, Words};
 
 pub type BufferLines = Items<BufferLine>;
@@ -55,20 +51,4 @@ pub enum Stop {
     Launches {
         launches: u64,
     },
-}
-
-/// Why a text is no report of a shape.
-#[derive(Clone, Copy, Debug, PartialEq, Eq)]
-pub enum JournalFault {
-    /// The first line that no report has there, counted from 1.
-    Line { number: u64 },
-    Memory,
-}
-
-impl From<AllocError> for JournalFault {
-    ghost from_gives = { λ _ e. e ≡ Memory };
-
-    fn from(_: AllocError) -> JournalFault {
-        JournalFault::Memory
-    }
 }

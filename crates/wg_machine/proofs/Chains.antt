@@ -1,6 +1,6 @@
 -- A chain of thread nodes that send at most one record each is no longer than the depths.
-use Rattle.std.proofs.Common.{◌≡◌, ℕ, zero, suc, ◌+◌, ◌-◌, ◌*◌, ◌<◌, ◌≤◌, List, [], ◌∷◌, length, map, refl, ap, sym, subst, arith, Option, None, Some, unwrap_or}
-use Rattle.std.specs.Prelude.{IfSome, slice_get, sum_by}
+use Rattle.std.proofs.Common.{Bool, true, false, ◌≡◌, ℕ, zero, suc, ◌+◌, ◌-◌, ◌*◌, ◌<◌, ◌≤◌, List, [], ◌∷◌, length, map, refl, ap, sym, subst, arith, Option, None, Some, unwrap_or}
+use Rattle.std.specs.Prelude.{IsTrue, IfSome, slice_get, sum_by}
 use Rattle.std.specs.List.{flat_map}
 use Rattle.std.specs.Option.{option_map}
 use Rattle.wg_words.specs.Each.{Each}
@@ -20,10 +20,10 @@ use Rattle.wg_machine.specs.LaunchMeaning.{Meaning, Outcome, Arrives, KeepsLaws}
 use Rattle.wg_machine.specs.Run.{IsRun}
 use Rattle.wg_machine.specs.State.{State, kept, born, start}
 use Rattle.wg_machine.specs.Step.{Passed, Step, IsReady, numbers_of, record_of, taken, left_after}
-use Rattle.wg_machine.specs.Units.{kind_at, depth_at}
+use Rattle.wg_machine.specs.Units.{kind_at, words_at, shared_at, depth_at, is_broadcasting}
 use Rattle.wg_machine.proofs.Deeper.{sent_deeper}
 use Rattle.wg_machine.proofs.Fits.{allowed_fits, step_keeps, born_fits}
-use Rattle.wg_machine.proofs.Pending.{Count, pending, running, pending_append, pending_kept, pending_left}
+use Rattle.wg_machine.proofs.Pending.{Count, pending, running, none_new, pending_append, pending_kept, pending_left}
 
 -- how many launches can come of a group of a record of the unit
 abbrev left_of : Shape → Count
@@ -69,6 +69,18 @@ taken_some : (shape : Shape) (s : State) (p : Passed) (xs : List Live) → p.lau
 taken_some shape s p [] e h = let l = ap (λ (rs : List Record). length rs) e in omega (arith, l)
 taken_some shape s p (x ∷ xs) e h = omega arith
 
+-- a thread unit is not shared
+unshared : (shape : Shape) (u : ℕ) → IsGoodShape shape → kind_at shape u ≡ Thread → shared_at shape u ≡ false
+unshared shape u good thread = go (slice_get shape.units u) refl thread
+  where
+    no : (k : Kind) (b : Bool) → (IsTrue b → IsTrue (is_broadcasting k)) → k ≡ Thread → b ≡ false
+    no k false h e = refl
+    no k true h e = absurd (let t = subst (λ (k : Kind). IsTrue (is_broadcasting k)) e (h refl) in cc)
+
+    go : (n : Option Unit) → slice_get shape.units u ≡ n → unwrap_or (option_map (λ (n : Unit). n.kind) n) Thread ≡ Thread → unwrap_or (option_map (λ (n : Unit). n.shared) n) false ≡ false
+    go None e k = refl
+    go (Some n) e k = no n.kind n.shared (good.units u n e).shared k
+
 step_less : (shape : Shape) (made : Meaning) (turns : ℕ) (lengths : List ℕ) (s : State) (e : Entry) (p : Passed) → IsGoodShape shape → IsLawful shape made → OnlyThreads shape → SendsOne shape made → StateFits shape lengths s → Step shape made turns s e p → suc (pending (left_of shape) p.after.bag) ≤ pending (left_of shape) s.bag
 step_less shape made turns lengths s e p good lawful threads one fits step =
     let nums = numbers_of p.launch.records in
@@ -77,9 +89,10 @@ step_less shape made turns lengths s e p good lawful threads one fits step =
     let few = subst (λ (o : Option Outcome). IfSome o (λ o. length o.sent ≤ 1)) step.runs (one p.launch s.buffers turns fit) in
     let deeper = sent_deeper shape p.launch s.buffers turns p.outcome good fit laws in
     let d = depth_most shape p.launch.unit good in
-    let before = pending_left (left_of shape) e.at p.launch.unit nums s.bag (λ u ws a b same. refl) step.allowed.ready in
+    let none = none_new (words_at shape p.launch.unit) (shared_at shape p.launch.unit) p.outcome.shared (unshared shape p.launch.unit good (threads p.launch.unit)) laws.shared in
+    let before = pending_left (left_of shape) e.at p.launch.unit nums p.outcome.shared s.bag none (λ u ws a b same. refl) step.allowed.ready in
     let runs = running_some shape p.launch.unit e.at (taken nums s.bag) step.allowed.ready (taken_some shape s p (taken nums s.bag) step.allowed.records step.allowed.some) in
-    let after = pending_append (left_of shape) (left_after nums e.at s.bag) (flat_map kept (born shape s.next p.outcome.sent)) in
+    let after = pending_append (left_of shape) (left_after nums e.at p.outcome.shared s.bag) (flat_map kept (born shape s.next p.outcome.sent)) in
     let new = pending_kept (left_of shape) (born shape s.next p.outcome.sent) in
     let least = born_left shape s.next (depth_at shape p.launch.unit) p.outcome.sent threads few deeper d in
     subst (λ (t : State). suc (pending (left_of shape) t.bag) ≤ pending (left_of shape) s.bag) (sym step.becomes) (omega (arith, before, runs, after, new, least, d))

@@ -1,5 +1,5 @@
 -- Additive bodies end every complete run with the same buffers.
-use Rattle.std.proofs.Common.{unwrap_or, ◌≡◌, ℕ, zero, suc, ◌+◌, ◌-◌, ◌%◌, ◌^◌, ◌<◌, ◌≤◌, Bool, true, false, ◌||◌, List, [], ◌∷◌, ◌++◌, length, map, Option, Some, None, refl, ap, sym, ◌∙◌, subst, arith, inl, inr, ◌⊎◌}
+use Rattle.std.proofs.Common.{unwrap_or, ◌≡◌, ℕ, zero, suc, ◌+◌, ◌-◌, ◌%◌, ◌^◌, ◌<◌, ◌≤◌, Bool, true, false, ◌||◌, ◌&&◌, List, [], ◌∷◌, ◌++◌, length, map, Option, Some, None, refl, ap, sym, ◌∙◌, subst, arith, inl, inr, ◌⊎◌}
 use Rattle.std.specs.Prelude.{IsTrue, IfSome, slice_index, slice_get, sum_by, ⊤}
 use Rattle.std.specs.List.{flat_map}
 use Rattle.std.specs.Option.{option_map}
@@ -7,6 +7,8 @@ use Rattle.std.proofs.lemmas.Bool.{cases_lt}
 use Rattle.std.proofs.lemmas.Bool.Decides.{nat_tests}
 use Rattle.std.proofs.lemmas.List.Sums.{sum_by-cons}
 use Rattle.wg_words.specs.Each.{Each}
+use Rattle.wg_machine.specs.declared.shape.Kind.{Kind}
+use Rattle.wg_machine.specs.declared.shape.Kind.TheVariants.{Thread, Coalescing, Grid, GridField}
 use Rattle.wg_machine.specs.declared.shape.Shape.{Shape}
 use Rattle.wg_machine.specs.declared.shape.Unit.{Unit}
 use Rattle.wg_machine.specs.declared.launch.Entry.{Entry}
@@ -14,9 +16,9 @@ use Rattle.wg_machine.specs.declared.launch.Launch.{Launch}
 use Rattle.wg_machine.specs.declared.launch.Live.{Live}
 use Rattle.wg_machine.specs.declared.launch.Record.{Record}
 use Rattle.wg_machine.specs.declared.launch.Sent.{Sent}
-use Rattle.wg_machine.specs.Additive.{zeros, plain, unnumbered, AreWords, IsAdded, OnlyAdds, DoesTheSame, IsAdditive, launch_of}
+use Rattle.wg_machine.specs.Additive.{zero_buffers, unnumbered_launch, unnumbered_record, AreWords, IsAdded, OnlyAdds, DoesTheSame, IsAdditive, group_launch}
 use Rattle.wg_machine.specs.Buffers.{Buffers, lengths_of, buffer_at, word_at}
-use Rattle.wg_machine.specs.Fitting.{StateFits, IsLawful}
+use Rattle.wg_machine.specs.Fitting.{IsFitting, BagFits, StateFits, IsLawful}
 use Rattle.wg_machine.specs.GoodShape.{IsGoodShape}
 use Rattle.wg_machine.specs.Grids.{grid_of, groups_of, place_of, has_group, same_group}
 use Rattle.wg_machine.specs.LaunchMeaning.{Meaning, Outcome, Arrives, FitsShape, KeepsLaws}
@@ -24,11 +26,11 @@ use Rattle.wg_machine.specs.Run.{IsRun, IsComplete}
 use Rattle.wg_machine.specs.State.{State, kept, born, start}
 use Rattle.wg_machine.specs.Step.{Passed, Step, Allows, IsReady, left_after, taken, record_of, numbers_of}
 use Rattle.wg_machine.specs.Totals.{Question, added_by, group_adds, groups_add, total_within, total, total_of_entries, EndsWithTotals}
-use Rattle.wg_machine.specs.Units.{kind_at, words_at, most_inputs, depth_at}
+use Rattle.wg_machine.specs.Units.{kind_at, words_at, shared_at, is_coalescing, most_inputs, depth_at}
 use Rattle.wg_machine.proofs.Deeper.{sent_deeper}
-use Rattle.wg_machine.proofs.Fits.{allowed_fits, step_keeps, born_fits, small_grid, good_kind, grid_kind}
+use Rattle.wg_machine.proofs.Fits.{allowed_fits, each_taken, step_keeps, born_fits, small_grid, good_kind, grid_kind}
 use Rattle.wg_machine.proofs.Groups.{place_in_grid}
-use Rattle.wg_machine.proofs.Pending.{Count, pending, running, Even, pending_append, pending_kept, pending_left, pending_born}
+use Rattle.wg_machine.proofs.Pending.{Count, pending, running, Even, none_new, pending_append, pending_kept, pending_left, pending_born}
 
 -- What the law is told of a graph: its shape is good, its bodies keep the laws and only add.
 record Told (shape : Shape) (made : Meaning) : Type 0 where
@@ -116,11 +118,17 @@ added_same : (q : Question) (d : ℕ) (t k : ℕ → List ℕ → ℕ) (o : Opti
 added_same q d t k None h same = refl
 added_same q d t k (Some o) h same = ap (λ (n : ℕ). word_at o.buffers q.buffer q.word + n) (sent_same q.shape d t k o.sent h same)
 
-launch_fits : (shape : Shape) (made : Meaning) (u : ℕ) (ws at : List ℕ) → Told shape made → IsOf shape u ws → InGrid shape u ws at → FitsShape shape (launch_of shape u ws (place_of (grid_of (kind_at shape u) ws) at))
+takes_single : (k : Kind) → is_coalescing k ≡ false → most_inputs k ≡ 1
+takes_single Thread e = refl
+takes_single (Coalescing most) e = absurd (cc)
+takes_single (Grid x y z) e = refl
+takes_single (GridField first parts x y z) e = refl
+
+launch_fits : (shape : Shape) (made : Meaning) (u : ℕ) (ws at : List ℕ) → Told shape made → IsOf shape u ws → InGrid shape u ws at → FitsShape shape (group_launch shape u ws (place_of (grid_of (kind_at shape u) ws) at))
 launch_fits shape made u ws at told of inside =
     let grid = grid_of (kind_at shape u) ws in
     let place = place_in_grid grid at inside in
-    let one = told.additive.single u in
+    let one = takes_single (kind_at shape u) (told.additive.none_coalesces u) in
     record {
       unit = of.unit;
       some = omega arith;
@@ -138,8 +146,8 @@ groups_same : (q : Question) (t k : ℕ → List ℕ → ℕ) (u : ℕ) (ws : Li
 groups_same q t k u ws told of same =
     let grid = grid_of (kind_at q.shape u) ws in
     sum_same (InGrid q.shape u ws) (λ (at : List ℕ). group_adds q t u ws (place_of grid at)) (λ (at : List ℕ). group_adds q k u ws (place_of grid at))
-    (λ at inside. added_same q (depth_at q.shape u) t k (q.made (launch_of q.shape u ws (place_of grid at)) (zeros q.lengths) q.turns)
-    (sends q.shape q.made told (launch_of q.shape u ws (place_of grid at)) (zeros q.lengths) q.turns (launch_fits q.shape q.made u ws at told of inside)) same)
+    (λ at inside. added_same q (depth_at q.shape u) t k (q.made (group_launch q.shape u ws (place_of grid at)) (zero_buffers q.lengths) q.turns)
+    (sends q.shape q.made told (group_launch q.shape u ws (place_of grid at)) (zero_buffers q.lengths) q.turns (launch_fits q.shape q.made u ws at told of inside)) same)
     (groups_of grid) (each_in (groups_of grid))
 
 within_same : (n k : ℕ) (q : Question) (u : ℕ) (ws : List ℕ) → Told q.shape q.made → IsOf q.shape u ws
@@ -167,12 +175,12 @@ total_is q u ws told of =
 record TakesOne (shape : Shape) (bag : List Live) (launch : Launch) (at : List ℕ) : Type 0 where
   live : Live
   taken_is : taken (numbers_of launch.records) bag ≡ live ∷ []
-  plain_is : plain launch ≡ launch_of shape live.unit live.words (place_of (grid_of (kind_at shape live.unit) live.words) at)
+  plain_is : unnumbered_launch launch ≡ group_launch shape live.unit live.words (place_of (grid_of (kind_at shape live.unit) live.words) at)
   records_is : launch.records ≡ record_of live ∷ []
   unit_is : live.unit ≡ launch.unit
 
-takes_one : (shape : Shape) (bag : List Live) (launch : Launch) (at : List ℕ) → Allows shape bag launch at → most_inputs (kind_at shape launch.unit) ≡ 1 → TakesOne shape bag launch at
-takes_one shape bag launch at allowed one = choice (taken (numbers_of launch.records) bag) refl
+takes_one : (shape : Shape) (bag : List Live) (launch : Launch) (at : List ℕ) → BagFits shape bag → Allows shape bag launch at → most_inputs (kind_at shape launch.unit) ≡ 1 → shared_at shape launch.unit ≡ false → TakesOne shape bag launch at
+takes_one shape bag launch at fits allowed one unshared = choice (taken (numbers_of launch.records) bag) refl
   where
     choice : (T : List Live) → taken (numbers_of launch.records) bag ≡ T → TakesOne shape bag launch at
     choice [] e = let a = ap (λ (rs : List Record). length rs) (allowed.records ∙ ap (map record_of) e) in let b = allowed.some in absurd (omega arith)
@@ -181,14 +189,16 @@ takes_one shape bag launch at allowed one = choice (taken (numbers_of launch.rec
         let records : launch.records ≡ record_of x ∷ [] = allowed.records ∙ ap (map record_of) e in
         let ready : Each (IsReady launch.unit at) (x ∷ []) = subst (λ (T : List Live). Each (IsReady launch.unit at) T) e allowed.ready in
         let unit : x.unit ≡ launch.unit = ready.0.unit_is in
-        let grid : launch.grid ≡ grid_of (kind_at shape x.unit) x.words = (subst (Each (λ (r : Record). launch.grid ≡ grid_of (kind_at shape launch.unit) r.words)) records allowed.grid).0 ∙ ap (λ (u : ℕ). grid_of (kind_at shape u) x.words) (sym unit) in
+        let fit : IsFitting shape x = (subst (BagFits shape) e (each_taken (IsFitting shape) (numbers_of launch.records) bag fits)).0 in
+        let same : fit.first_words ≡ x.words = fit.stays (ap (shared_at shape) unit ∙ unshared) in
+        let grid : launch.grid ≡ grid_of (kind_at shape x.unit) x.words = (subst (Each (λ (r : Live). launch.grid ≡ r.grid)) e allowed.grid).0 ∙ fit.grid ∙ ap (grid_of (kind_at shape x.unit)) same in
         let group : launch.group ≡ place_of (grid_of (kind_at shape x.unit) x.words) at = allowed.group ∙ ap (λ (g : List ℕ). place_of g at) grid in
         record {
           live = x;
           taken_is = e;
           plain_is =
-              ap (λ (u : ℕ). let l : Launch = record { unit = u; records = map unnumbered launch.records; group = launch.group; grid = launch.grid; last = false } in l) (sym unit)
-              ∙ ap (λ (rs : List Record). let l : Launch = record { unit = x.unit; records = map unnumbered rs; group = launch.group; grid = launch.grid; last = false } in l) records
+              ap (λ (u : ℕ). let l : Launch = record { unit = u; records = map unnumbered_record launch.records; group = launch.group; grid = launch.grid; last = false } in l) (sym unit)
+              ∙ ap (λ (rs : List Record). let l : Launch = record { unit = x.unit; records = map unnumbered_record rs; group = launch.group; grid = launch.grid; last = false } in l) records
               ∙ ap (λ (g : ℕ). let l : Launch = record { unit = x.unit; records = record { number = 0; words = x.words } ∷ []; group = g; grid = launch.grid; last = false } in l) group
               ∙ ap (λ (g : List ℕ). let l : Launch = record { unit = x.unit; records = record { number = 0; words = x.words } ∷ []; group = place_of (grid_of (kind_at shape x.unit) x.words) at; grid = g; last = false } in l) grid;
           records_is = records;
@@ -256,22 +266,27 @@ total_sent q d ss told arrive =
     sent_same q.shape d (total q) (λ (u : ℕ) (ws : List ℕ). groups_add q (total q) u ws (groups_of (grid_of (kind_at q.shape u) ws))) ss arrive
     (λ v ws of deep. total_is q v ws told of)
 
+not_last : (shared rest last : Bool) → last ≡ (shared && rest) → shared ≡ false → last ≡ false
+not_last true rest last e f = absurd (cc)
+not_last false rest last e f = e
+
 -- a step keeps the sum
 keeps_step : (q : Question) (sum : ℕ) (s : State) (e : Entry) (p : Passed) → Told q.shape q.made → Keeps q sum s → Step q.shape q.made q.turns s e p → Keeps q sum p.after
 unfolding count_of
 keeps_step q sum s e p told keeps step =
     let shape = q.shape in
     let nums = numbers_of p.launch.records in
-    let one = takes_one shape s.bag p.launch e.at step.allowed (told.additive.single p.launch.unit) in
+    let unshared = told.additive.none_shared p.launch.unit in
+    let one = takes_one shape s.bag p.launch e.at keeps.fits.bag step.allowed (takes_single (kind_at shape p.launch.unit) (told.additive.none_coalesces p.launch.unit)) unshared in
     let live = one.live in
     let fits = allowed_fits shape s.bag p.launch e.at told.good keeps.fits.bag step.allowed in
     let place = place_of (grid_of (kind_at shape live.unit) live.words) e.at in
-    let same : DoesTheSame s.buffers (q.made (launch_of shape live.unit live.words place) (zeros q.lengths) q.turns) (Some p.outcome) =
-    subst (λ (o : Option Outcome). DoesTheSame s.buffers (q.made (launch_of shape live.unit live.words place) (zeros q.lengths) q.turns) o) step.runs
-    (subst (λ (ns : List ℕ). DoesTheSame s.buffers (q.made (launch_of shape live.unit live.words place) (zeros ns) q.turns) (q.made p.launch s.buffers q.turns)) keeps.fits.buffers
-    (subst (λ (l : Launch). DoesTheSame s.buffers (q.made l (zeros (lengths_of s.buffers)) q.turns) (q.made p.launch s.buffers q.turns)) one.plain_is
-    (told.additive.adds p.launch s.buffers q.turns fits keeps.are_words))) in
-    let d = does s.buffers (q.made (launch_of shape live.unit live.words place) (zeros q.lengths) q.turns) p.outcome same in
+    let same : DoesTheSame s.buffers (q.made (group_launch shape live.unit live.words place) (zero_buffers q.lengths) q.turns) (Some p.outcome) =
+    subst (λ (o : Option Outcome). DoesTheSame s.buffers (q.made (group_launch shape live.unit live.words place) (zero_buffers q.lengths) q.turns) o) step.runs
+    (subst (λ (ns : List ℕ). DoesTheSame s.buffers (q.made (group_launch shape live.unit live.words place) (zero_buffers ns) q.turns) (q.made p.launch s.buffers q.turns)) keeps.fits.buffers
+    (subst (λ (l : Launch). DoesTheSame s.buffers (q.made l (zero_buffers (lengths_of s.buffers)) q.turns) (q.made p.launch s.buffers q.turns)) one.plain_is
+    (told.additive.adds p.launch s.buffers q.turns fits (not_last (shared_at shape p.launch.unit) _ p.launch.last step.allowed.last unshared) keeps.are_words))) in
+    let d = does s.buffers (q.made (group_launch shape live.unit live.words place) (zero_buffers q.lengths) q.turns) p.outcome same in
     let deep : AllDeeper shape (depth_at shape p.launch.unit) p.outcome.sent =
     subst (λ (o : Option Outcome). DeeperIfSome shape (depth_at shape p.launch.unit) o) step.runs (sends shape q.made told p.launch s.buffers q.turns fits) in
     let adds = d.adds in
@@ -279,9 +294,11 @@ keeps_step q sum s e p told keeps step =
     subst (λ (n : ℕ). q.word < n) (sym (length_at s.buffers q.buffer ∙ ap (λ (ns : List ℕ). slice_index ns q.buffer) keeps.fits.buffers)) within in
     let group : count_of q live.unit live.words e.at ≡ word_at d.on_zeros.buffers q.buffer q.word + sum_by (λ (t : Sent). total q t.unit t.words) p.outcome.sent =
     ap (added_by q (total q)) d.is ∙ ap (λ (ss : List Sent). word_at d.on_zeros.buffers q.buffer q.word + sum_by (λ (t : Sent). total q t.unit t.words) ss) (sym adds.sent) in
-    let before = pending_left (count_of q) e.at p.launch.unit nums s.bag (count_even q) step.allowed.ready in
+    let laws = subst (λ (o : Option Outcome). IfSome o (KeepsLaws shape p.launch s.buffers q.turns)) step.runs (told.lawful p.launch s.buffers q.turns fits) in
+    let none = none_new (words_at shape p.launch.unit) (shared_at shape p.launch.unit) p.outcome.shared unshared laws.shared in
+    let before = pending_left (count_of q) e.at p.launch.unit nums p.outcome.shared s.bag none (count_even q) step.allowed.ready in
     let runs : running (count_of q) e.at (taken nums s.bag) ≡ count_of q live.unit live.words e.at + 0 = ap (running (count_of q) e.at) one.taken_is in
-    let after = pending_append (count_of q) (left_after nums e.at s.bag) (flat_map kept (born shape s.next p.outcome.sent)) in
+    let after = pending_append (count_of q) (left_after nums e.at p.outcome.shared s.bag) (flat_map kept (born shape s.next p.outcome.sent)) in
     let new = pending_kept (count_of q) (born shape s.next p.outcome.sent) in
     let new' = pending_born (count_of q) shape s.next p.outcome.sent in
     let sent = total_sent q (depth_at shape p.launch.unit) p.outcome.sent told deep in
@@ -290,10 +307,10 @@ keeps_step q sum s e p told keeps step =
       fits = subst (StateFits shape q.lengths) step.becomes stays;
       are_words = added_words s.buffers d.on_zeros.buffers p.outcome.buffers adds.buffers;
       kept_sum = λ within.
-          subst (λ (n : ℕ). (n + pending (count_of q) (left_after nums e.at s.bag ++ flat_map kept (born shape s.next p.outcome.sent))) % 2 ^ 32 ≡ sum) (sym (adds.buffers.words q.buffer q.word (range within)))
-          (subst (λ (n : ℕ). ((word_at s.buffers q.buffer q.word + word_at d.on_zeros.buffers q.buffer q.word) % 2 ^ 32 + n) % 2 ^ 32 ≡ sum) (sym (after ∙ ap (λ (n : ℕ). pending (count_of q) (left_after nums e.at s.bag) + n) (new ∙ new' ∙ sym sent)))
-          (sum_moves (word_at s.buffers q.buffer q.word) (word_at d.on_zeros.buffers q.buffer q.word) (pending (count_of q) s.bag) (pending (count_of q) (left_after nums e.at s.bag)) (sum_by (λ (t : Sent). total q t.unit t.words) p.outcome.sent) sum
-          (before ∙ ap (λ (n : ℕ). n + pending (count_of q) (left_after nums e.at s.bag)) (runs ∙ ap (λ (n : ℕ). n + 0) group ∙ (let k : (a b : ℕ) → a + b + 0 ≡ a + b = λ a b. (omega arith) in k _ _)))
+          subst (λ (n : ℕ). (n + pending (count_of q) (left_after nums e.at p.outcome.shared s.bag ++ flat_map kept (born shape s.next p.outcome.sent))) % 2 ^ 32 ≡ sum) (sym (adds.buffers.words q.buffer q.word (range within)))
+          (subst (λ (n : ℕ). ((word_at s.buffers q.buffer q.word + word_at d.on_zeros.buffers q.buffer q.word) % 2 ^ 32 + n) % 2 ^ 32 ≡ sum) (sym (after ∙ ap (λ (n : ℕ). pending (count_of q) (left_after nums e.at p.outcome.shared s.bag) + n) (new ∙ new' ∙ sym sent)))
+          (sum_moves (word_at s.buffers q.buffer q.word) (word_at d.on_zeros.buffers q.buffer q.word) (pending (count_of q) s.bag) (pending (count_of q) (left_after nums e.at p.outcome.shared s.bag)) (sum_by (λ (t : Sent). total q t.unit t.words) p.outcome.sent) sum
+          (before ∙ ap (λ (n : ℕ). n + pending (count_of q) (left_after nums e.at p.outcome.shared s.bag)) (runs ∙ ap (λ (n : ℕ). n + 0) group ∙ (let k : (a b : ℕ) → a + b + 0 ≡ a + b = λ a b. (omega arith) in k _ _)))
           (keeps.kept_sum within)));
     })
 

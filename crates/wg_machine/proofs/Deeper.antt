@@ -25,7 +25,7 @@ all_deeper shape u [] (s ∷ sent) outputs all = absurd all
 all_deeper shape u (b ∷ through) [] outputs all = absurd all
 all_deeper shape u (b ∷ through) (s ∷ sent) outputs all = (goes_deeper shape u b s outputs all.0, all_deeper shape u through sent outputs all.1)
 
-there_is : (units : List Unit) (u : ℕ) → u < length units → (n : Unit) × (slice_get units u ≡ Some n)
+pub there_is : (units : List Unit) (u : ℕ) → u < length units → (n : Unit) × (slice_get units u ≡ Some n)
 there_is [] u h = absurd (omega arith)
 there_is (n ∷ units) zero h = (n, refl)
 there_is (n ∷ units) (suc u) h = there_is units u (omega arith)

@@ -17,11 +17,11 @@ use Rattle.wg_machine.specs.Buffers.{Buffers, lengths_of}
 use Rattle.wg_machine.specs.Fitting.{IsFitting, BagFits, StateFits, IsLawful}
 use Rattle.wg_machine.specs.GoodShape.{IsGoodShape, IsGoodKind}
 use Rattle.wg_machine.specs.Grids.{clipped, grid_of, groups_in, groups_of, place_of, without_group}
-use Rattle.wg_machine.specs.LaunchMeaning.{Meaning, Outcome, Arrives, HasGridOf, FitsShape, KeepsLaws}
+use Rattle.wg_machine.specs.LaunchMeaning.{Meaning, Outcome, Arrives, HasGridOf, HasNewWords, FitsShape, KeepsLaws}
 use Rattle.wg_machine.specs.Run.{IsRun, EachState, times}
 use Rattle.wg_machine.specs.State.{State, born, kept, live_of, start}
-use Rattle.wg_machine.specs.Step.{Allows, IsReady, Passed, Step, is_among, left_after, numbers_of, record_of, taken}
-use Rattle.wg_machine.specs.Units.{kind_at, words_at}
+use Rattle.wg_machine.specs.Step.{Allows, IsReady, Passed, Step, after_group, has_number, left_after, numbers_of, record_of, taken}
+use Rattle.wg_machine.specs.Units.{kind_at, words_at, shared_at}
 use Rattle.wg_machine.proofs.Groups.{place_in_grid, has_times, times_has, times_without}
 
 -- lists of facts
@@ -30,9 +30,9 @@ pub each_append : {A : Type 0} (P : A → Type 0) (xs ys : List A) → Each P xs
 each_append P [] ys a b = b
 each_append P (x ∷ xs) ys a b = (a.0, each_append P xs ys a.1 b)
 
-each_taken : (P : Live → Type 0) (nums : List ℕ) (bag : List Live) → Each P bag → Each P (taken nums bag)
+pub each_taken : (P : Live → Type 0) (nums : List ℕ) (bag : List Live) → Each P bag → Each P (taken nums bag)
 each_taken P nums [] each = tt
-each_taken P nums (x ∷ bag) each = choice (is_among nums x.number) (each_taken P nums bag each.1)
+each_taken P nums (x ∷ bag) each = choice (has_number nums x.number) (each_taken P nums bag each.1)
   where
     choice : (b : Bool) → Each P (taken nums bag) → Each P (if b then x ∷ taken nums bag else taken nums bag)
     choice true rest = (each.0, rest)
@@ -94,55 +94,77 @@ allowed_fits shape bag launch at good fits allowed =
         let records : launch.records ≡ map record_of (x ∷ xs) = allowed.records ∙ ap (map record_of) e in
         let unit = ready.0.unit_is in
         let kind = kind_at shape launch.unit in
-        let grid : launch.grid ≡ grid_of kind x.words = (subst (Each (λ (r : Record). launch.grid ≡ grid_of kind r.words)) records allowed.grid).0 in
+        let now : launch.grid ≡ x.grid = (subst (Each (λ (r : Live). launch.grid ≡ r.grid)) e allowed.grid).0 in
+        let grid : launch.grid ≡ grid_of kind fit.0.first_words = now ∙ fit.0.grid ∙ ap (λ (u : ℕ). grid_of (kind_at shape u) fit.0.first_words) unit in
         let once = has_times x.groups at ready.0.group_is in
-        let most : times at x.groups ≤ times at (groups_of (grid_of kind x.words)) = subst (λ u. times at x.groups ≤ times at (groups_of (grid_of (kind_at shape u) x.words))) unit (fit.0.groups at) in
-        let inside = times_has (groups_of (grid_of kind x.words)) at (omega (arith, once, most)) in
+        let most : times at x.groups ≤ times at (groups_of x.grid) = fit.0.groups at in
+        let inside = times_has (groups_of x.grid) at (omega (arith, once, most)) in
         let place : launch.group < groups_in launch.grid =
-        subst (λ (g : List ℕ). launch.group < groups_in g) (sym grid)
-        (subst (λ n. n < groups_in (grid_of kind x.words)) (sym (allowed.group ∙ ap (λ (g : List ℕ). place_of g at) grid))
-        (place_in_grid (grid_of kind x.words) at inside)) in
+        subst (λ (g : List ℕ). launch.group < groups_in g) (sym now)
+        (subst (λ n. n < groups_in x.grid) (sym (allowed.group ∙ ap (λ (g : List ℕ). place_of g at) now))
+        (place_in_grid x.grid at inside)) in
         record {
           unit = subst (λ u. u < length shape.units) unit fit.0.unit;
           some = allowed.some;
           few = allowed.few;
           words = subst (Each (λ (r : Record). length r.words ≡ words_at shape launch.unit)) (sym records) (all_words shape launch.unit at (x ∷ xs) ready fit);
           grid_some = omega (arith, place);
-          grid_few = subst (λ (g : List ℕ). groups_in g < 2 ^ 24) (sym grid) (small_grid (words_at shape launch.unit) kind x.words (good_kind shape launch.unit good));
+          grid_few = subst (λ (g : List ℕ). groups_in g < 2 ^ 24) (sym grid) (small_grid (words_at shape launch.unit) kind fit.0.first_words (good_kind shape launch.unit good));
           group = place;
-          grid = subst (HasGridOf kind) (sym grid) (grid_kind kind x.words);
+          grid = subst (HasGridOf kind) (sym grid) (grid_kind kind fit.0.first_words);
         }
 
 -- a step keeps a state fitting
 
-kept_fits : (shape : Shape) (number unit : ℕ) (words : List ℕ) (groups : List (List ℕ)) → IsFitting shape (record { number = number; unit = unit; words = words; groups = groups }) → BagFits shape (kept (record { number = number; unit = unit; words = words; groups = groups }))
-kept_fits shape number unit words [] fits = tt
-kept_fits shape number unit words (g ∷ groups) fits = (fits, tt)
+kept_fits : (shape : Shape) (number unit : ℕ) (words grid : List ℕ) (groups : List (List ℕ)) → IsFitting shape (record { number = number; unit = unit; words = words; grid = grid; groups = groups }) → BagFits shape (kept (record { number = number; unit = unit; words = words; grid = grid; groups = groups }))
+kept_fits shape number unit words grid [] fits = tt
+kept_fits shape number unit words grid (g ∷ groups) fits = (fits, tt)
 
-left_fits : (shape : Shape) (nums at : List ℕ) (bag : List Live) → BagFits shape bag → BagFits shape (left_after nums at bag)
-left_fits shape nums at [] fits = tt
-left_fits shape nums at (x ∷ bag) fits = choice (is_among nums x.number) (left_fits shape nums at bag fits.1)
+-- new words are those of a shared unit, and as many as it has
+after_fits : (shape : Shape) (unit : ℕ) (at : List ℕ) (new : Option (List ℕ)) (x : Live) → x.unit ≡ unit → HasNewWords (shared_at shape unit) (words_at shape unit) new → IsFitting shape x → IsFitting shape (after_group at new x)
+after_fits shape unit at None x e laws fits = record {
+  unit = fits.unit;
+  words = fits.words;
+  first_words = fits.first_words;
+  grid = fits.grid;
+  stays = fits.stays;
+  groups = λ b. (let k = times_without at b x.groups in let f = fits.groups b in omega (arith, k, f));
+}
+after_fits shape unit at (Some ws) x e laws fits = choice (shared_at shape unit) refl laws
   where
-    less : IsFitting shape (record x { groups = without_group at x.groups })
-    less = record { unit = fits.0.unit; words = fits.0.words; groups = λ b. (let k = times_without at b x.groups in let f = fits.0.groups b in omega (arith, k, f)) }
+    choice : (b : Bool) → shared_at shape unit ≡ b → HasNewWords b (words_at shape unit) (Some ws) → IsFitting shape (after_group at (Some ws) x)
+    choice false is laws = absurd laws
+    choice true is laws = record {
+      unit = fits.unit;
+      words = laws ∙ ap (words_at shape) (sym e);
+      first_words = fits.first_words;
+      grid = fits.grid;
+      stays = λ no. absurd (let same = ap (shared_at shape) e in cc);
+      groups = λ b. (let k = times_without at b x.groups in let f = fits.groups b in omega (arith, k, f));
+    }
 
-    choice : (b : Bool) → BagFits shape (left_after nums at bag) → BagFits shape ((if b then kept (record x { groups = without_group at x.groups }) else x ∷ []) ++ left_after nums at bag)
-    choice true rest = each_append (IsFitting shape) (kept (record x { groups = without_group at x.groups })) (left_after nums at bag) (kept_fits shape x.number x.unit x.words (without_group at x.groups) less) rest
-    choice false rest = (fits.0, rest)
+left_fits : (shape : Shape) (unit : ℕ) (nums at : List ℕ) (new : Option (List ℕ)) (bag : List Live) → HasNewWords (shared_at shape unit) (words_at shape unit) new → Each (IsReady unit at) (taken nums bag) → BagFits shape bag → BagFits shape (left_after nums at new bag)
+left_fits shape unit nums at new [] laws ready fits = tt
+left_fits shape unit nums at new (x ∷ bag) laws ready fits = choice (has_number nums x.number) (λ r. left_fits shape unit nums at new bag laws r fits.1) ready
+  where
+    choice : (b : Bool) → (Each (IsReady unit at) (taken nums bag) → BagFits shape (left_after nums at new bag)) → Each (IsReady unit at) (if b then x ∷ taken nums bag else taken nums bag) → BagFits shape ((if b then kept (after_group at new x) else x ∷ []) ++ left_after nums at new bag)
+    choice true rest ready = each_append (IsFitting shape) (kept (after_group at new x)) (left_after nums at new bag) (kept_fits shape x.number x.unit (unwrap_or new x.words) x.grid (without_group at x.groups) (after_fits shape unit at new x ready.0.unit_is laws fits.0)) (rest ready.1)
+    choice false rest ready = (fits.0, rest ready)
 
 pub born_fits : (shape : Shape) (n : ℕ) (sent : List Sent) → Each (Arrives shape) sent → BagFits shape (flat_map kept (born shape n sent))
 born_fits shape n [] all = tt
 born_fits shape n (s ∷ sent) all =
     each_append (IsFitting shape) (kept (live_of shape n s)) (flat_map kept (born shape (n + 1) sent))
-    (kept_fits shape n s.unit s.words (groups_of (grid_of (kind_at shape s.unit) s.words)) (record { unit = all.0.unit; words = all.0.words; groups = λ at. (omega arith) }))
+    (kept_fits shape n s.unit s.words (grid_of (kind_at shape s.unit) s.words) (groups_of (grid_of (kind_at shape s.unit) s.words))
+    (record { unit = all.0.unit; words = all.0.words; first_words = s.words; grid = refl; stays = λ _. refl; groups = λ at. (omega arith) }))
     (born_fits shape (n + 1) sent all.1)
 
 pub step_keeps : (shape : Shape) (made : Meaning) (turns : ℕ) (lengths : List ℕ) (s : State) (e : Entry) (p : Passed) → IsGoodShape shape → IsLawful shape made → StateFits shape lengths s → Step shape made turns s e p → StateFits shape lengths p.after
 step_keeps shape made turns lengths s e p good lawful fits step =
     let laws = subst (λ (o : Option Outcome). IfSome o (KeepsLaws shape p.launch s.buffers turns)) step.runs (lawful p.launch s.buffers turns (allowed_fits shape s.bag p.launch e.at good fits.bag step.allowed)) in
     subst (StateFits shape lengths) (sym step.becomes) (record {
-      bag = each_append (IsFitting shape) (left_after (numbers_of p.launch.records) e.at s.bag) (flat_map kept (born shape s.next p.outcome.sent))
-          (left_fits shape (numbers_of p.launch.records) e.at s.bag fits.bag) (born_fits shape s.next p.outcome.sent laws.arrive);
+      bag = each_append (IsFitting shape) (left_after (numbers_of p.launch.records) e.at p.outcome.shared s.bag) (flat_map kept (born shape s.next p.outcome.sent))
+          (left_fits shape p.launch.unit (numbers_of p.launch.records) e.at p.outcome.shared s.bag laws.shared step.allowed.ready fits.bag) (born_fits shape s.next p.outcome.sent laws.arrive);
       buffers = laws.lengths ∙ fits.buffers;
     })
 

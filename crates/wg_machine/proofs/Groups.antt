@@ -1,5 +1,5 @@
 -- The groups of a grid: each stands there once, and its place is below the grid's product.
-use Rattle.std.proofs.Common.{◌≡◌, ℕ, zero, suc, ◌+◌, ◌*◌, ◌<◌, ◌≤◌, Bool, true, false, List, [], ◌∷◌, map, refl, ap, sym, ◌∙◌, subst, arith}
+use Rattle.std.proofs.Common.{◌≡◌, ℕ, zero, suc, ◌+◌, ◌*◌, ◌<◌, ◌≤◌, Bool, true, false, List, [], ◌∷◌, length, map, refl, ap, sym, ◌∙◌, subst, arith}
 use Rattle.std.specs.Prelude.{IsTrue, if◌then◌else◌, ◌==◌, ◌&&◌, ◌||◌, slice_index, nat_le}
 use Rattle.std.specs.List.{list_any, flat_map, range_with_len}
 use Rattle.std.proofs.lemmas.Bool.{and_parts}
@@ -41,11 +41,12 @@ at_most : (b : Bool) (k n : ℕ) → n ≤ pay b k → n ≤ k
 at_most true k n h = h
 at_most false k n h = omega arith
 
-both : (p q r : Bool) → pay ((p && q) && r) 1 ≤ pay p (pay q (pay r 1))
-both true true true = omega arith
-both true true false = omega arith
-both true false r = omega arith
-both false q r = omega arith
+both : (l p q r : Bool) → pay (((l && p) && q) && r) 1 ≤ pay p (pay q (pay r 1))
+both false p q r = omega arith
+both true true true true = omega arith
+both true true true false = omega arith
+both true true false r = omega arith
+both true false q r = omega arith
 
 pub once_in_grid : (grid at : List ℕ) → times at (groups_of grid) ≤ 1
 once_in_grid grid at =
@@ -55,7 +56,7 @@ once_in_grid grid at =
     planes at _ (slice_index at 1) (pay (z == slice_index at 2) 1) 0 (slice_index grid 1) (λ y.
     at_most (nat_le 0 (slice_index at 0)) (pay (y == slice_index at 1) (pay (z == slice_index at 2) 1)) _ (
     rows at (λ x. x ∷ y ∷ z ∷ []) (slice_index at 0) (pay (y == slice_index at 1) (pay (z == slice_index at 2) 1)) 0 (slice_index grid 0) (λ x.
-    both (x == slice_index at 0) (y == slice_index at 1) (z == slice_index at 2)))))))
+    both (3 == length at) (x == slice_index at 0) (y == slice_index at 1) (z == slice_index at 2)))))))
 
 -- a number of a range that passes
 record Passes (a n : ℕ) (p : ℕ → Bool) : Type 0 where
@@ -104,9 +105,10 @@ place_in_grid grid at h =
     let y = py.number in
     let px = any_map q (λ (x : ℕ). x ∷ y ∷ z ∷ []) 0 gx py.passes in
     let x = px.number in
-    let both = and_parts ((x == slice_index at 0) && (y == slice_index at 1)) (z == slice_index at 2) px.passes in
-    let two = and_parts (x == slice_index at 0) (y == slice_index at 1) both.0 in
-    let ex : x ≡ slice_index at 0 = (Decides-eqb x (slice_index at 0)).0 two.0 in
+    let both = and_parts ((3 == length at) && (x == slice_index at 0) && (y == slice_index at 1)) (z == slice_index at 2) px.passes in
+    let two = and_parts ((3 == length at) && (x == slice_index at 0)) (y == slice_index at 1) both.0 in
+    let one = and_parts (3 == length at) (x == slice_index at 0) two.0 in
+    let ex : x ≡ slice_index at 0 = (Decides-eqb x (slice_index at 0)).0 one.1 in
     let ey : y ≡ slice_index at 1 = (Decides-eqb y (slice_index at 1)).0 two.1 in
     let ez : z ≡ slice_index at 2 = (Decides-eqb z (slice_index at 2)).0 both.1 in
     let bx : x < gx = (let k = px.below in omega arith) in

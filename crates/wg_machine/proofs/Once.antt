@@ -1,5 +1,5 @@
 -- A complete run takes each group of each record once.
-use Rattle.std.proofs.Common.{◌≡◌, ℕ, zero, suc, ◌+◌, ◌<◌, ◌≤◌, Bool, true, false, ◌&&◌, ◌||◌, cond, List, [], ◌∷◌, ◌++◌, length, map, refl, ap, sym, ◌∙◌, subst, arith}
+use Rattle.std.proofs.Common.{Option, unwrap_or, ◌≡◌, ℕ, zero, suc, ◌+◌, ◌<◌, ◌≤◌, Bool, true, false, ◌&&◌, ◌||◌, cond, List, [], ◌∷◌, ◌++◌, length, map, refl, ap, sym, ◌∙◌, subst, arith}
 use Rattle.std.specs.Prelude.{IsTrue, filter, if◌then◌else◌, ◌==◌}
 use Rattle.std.specs.List.{flat_map}
 use Rattle.std.proofs.lemmas.Bool.Decides.{nat_tests, Decides-eqb}
@@ -14,7 +14,7 @@ use Rattle.wg_machine.specs.Grids.{same_group, has_group, without_group}
 use Rattle.wg_machine.specs.LaunchMeaning.{Meaning}
 use Rattle.wg_machine.specs.Run.{IsRun, IsComplete, EachOnce, uses, all_born, groups_at, times}
 use Rattle.wg_machine.specs.State.{State, start, kept, born, live_of}
-use Rattle.wg_machine.specs.Step.{Passed, IsReady, is_among, numbers_of, record_of, taken, left_after, state_after}
+use Rattle.wg_machine.specs.Step.{Passed, IsReady, has_number, numbers_of, record_of, taken, after_group, left_after, state_after}
 
 -- how often a group of the record of a number is still to run
 abbrev left : ℕ → List ℕ → List Live → ℕ
@@ -37,19 +37,19 @@ left_append r at [] b = omega arith
 left_append r at (x ∷ a) b = rw (left_append r at a b) (omega arith)
 
 -- records without groups count for nothing
-left_kept_one : (r : ℕ) (at : List ℕ) (number unit : ℕ) (words : List ℕ) (gs : List (List ℕ)) → left r at (kept (record { number = number; unit = unit; words = words; groups = gs })) ≡ (if number == r then times at gs else 0)
-left_kept_one r at number unit words [] = choice (number == r)
+left_kept_one : (r : ℕ) (at : List ℕ) (number unit : ℕ) (words grid : List ℕ) (gs : List (List ℕ)) → left r at (kept (record { number = number; unit = unit; words = words; grid = grid; groups = gs })) ≡ (if number == r then times at gs else 0)
+left_kept_one r at number unit words grid [] = choice (number == r)
   where
     choice : (b : Bool) → 0 ≡ (if b then times at [] else 0)
     choice true = refl
     choice false = refl
-left_kept_one r at number unit words (g ∷ gs) = omega arith
+left_kept_one r at number unit words grid (g ∷ gs) = omega arith
 
 left_kept : (r : ℕ) (at : List ℕ) (xs : List Live) → left r at (flat_map kept xs) ≡ left r at xs
 left_kept r at [] = refl
 left_kept r at (x ∷ xs) =
     left_append r at (kept x) (flat_map kept xs)
-    ∙ (ap (λ (n : ℕ). n + left r at (flat_map kept xs)) (left_kept_one r at x.number x.unit x.words x.groups)
+    ∙ (ap (λ (n : ℕ). n + left r at (flat_map kept xs)) (left_kept_one r at x.number x.unit x.words x.grid x.groups)
     ∙ ap (λ (n : ℕ). (if x.number == r then times at x.groups else 0) + n) (left_kept r at xs))
 
 born_append : (shape : Shape) (n : ℕ) (xs ys : List Sent) → born shape n (xs ++ ys) ≡ born shape n xs ++ born shape (n + length xs) ys
@@ -99,24 +99,24 @@ step_false false false true t l o k q h = omega arith
 step_false false false false t l o k q h = omega arith
 
 -- what is left before a launch is left after it, or was taken by it
-left_step : (r : ℕ) (at e : List ℕ) (unit : ℕ) (nums : List ℕ) (bag : List Live) → Each (IsReady unit e) (taken nums bag) → left r at bag ≡ (if same_group e at && is_among nums r then occurs r bag else 0) + left r at (left_after nums e bag)
-left_step r at e unit nums [] ready = zero_is (same_group e at && is_among nums r)
+left_step : (r : ℕ) (at e : List ℕ) (unit : ℕ) (nums : List ℕ) (new : Option (List ℕ)) (bag : List Live) → Each (IsReady unit e) (taken nums bag) → left r at bag ≡ (if same_group e at && has_number nums r then occurs r bag else 0) + left r at (left_after nums e new bag)
+left_step r at e unit nums new [] ready = zero_is (same_group e at && has_number nums r)
   where
     zero_is : (b : Bool) → 0 ≡ (if b then 0 else 0) + 0
     zero_is true = refl
     zero_is false = refl
-left_step r at e unit nums (x ∷ bag) ready = choice (λ h. left_step r at e unit nums bag h) (is_among nums x.number) refl ready
+left_step r at e unit nums new (x ∷ bag) ready = choice (λ h. left_step r at e unit nums new bag h) (has_number nums x.number) refl ready
   where
-    choice : (Each (IsReady unit e) (taken nums bag) → left r at bag ≡ (if same_group e at && is_among nums r then occurs r bag else 0) + left r at (left_after nums e bag)) → (b : Bool) → is_among nums x.number ≡ b → Each (IsReady unit e) (if b then x ∷ taken nums bag else taken nums bag) → left r at (x ∷ bag) ≡ (if same_group e at && is_among nums r then occurs r (x ∷ bag) else 0) + left r at ((if b then kept (record x { groups = without_group e x.groups }) else x ∷ []) ++ left_after nums e bag)
+    choice : (Each (IsReady unit e) (taken nums bag) → left r at bag ≡ (if same_group e at && has_number nums r then occurs r bag else 0) + left r at (left_after nums e new bag)) → (b : Bool) → has_number nums x.number ≡ b → Each (IsReady unit e) (if b then x ∷ taken nums bag else taken nums bag) → left r at (x ∷ bag) ≡ (if same_group e at && has_number nums r then occurs r (x ∷ bag) else 0) + left r at ((if b then kept (after_group e new x) else x ∷ []) ++ left_after nums e new bag)
     choice hyp true f ready =
         let ih = hyp ready.1 in
-        let k = left_kept_one r at x.number x.unit x.words (without_group e x.groups) in
+        let k = left_kept_one r at x.number x.unit (unwrap_or new x.words) x.grid (without_group e x.groups) in
         let w = times_without e at x.groups ready.0.group_is in
-        step_true (x.number == r) (same_group e at) (is_among nums r) _ _ _ _ _ w ih (λ q. subst (λ (n : ℕ). is_among nums n ≡ true) ((Decides-eqb x.number r).0 q) f)
-        ∙ ap (λ (n : ℕ). (if same_group e at && is_among nums r then occurs r (x ∷ bag) else 0) + n) (sym (left_append r at (kept (record x { groups = without_group e x.groups })) (left_after nums e bag) ∙ ap (λ (n : ℕ). n + left r at (left_after nums e bag)) k))
+        step_true (x.number == r) (same_group e at) (has_number nums r) _ _ _ _ _ w ih (λ q. subst (λ (n : ℕ). has_number nums n ≡ true) ((Decides-eqb x.number r).0 q) f)
+        ∙ ap (λ (n : ℕ). (if same_group e at && has_number nums r then occurs r (x ∷ bag) else 0) + n) (sym (left_append r at (kept (after_group e new x)) (left_after nums e new bag) ∙ ap (λ (n : ℕ). n + left r at (left_after nums e new bag)) k))
     choice hyp false f ready =
         let ih = hyp ready in
-        step_false (x.number == r) (same_group e at) (is_among nums r) _ _ _ _ ih (λ q. subst (λ (n : ℕ). is_among nums n ≡ false) ((Decides-eqb x.number r).0 q) f)
+        step_false (x.number == r) (same_group e at) (has_number nums r) _ _ _ _ ih (λ q. subst (λ (n : ℕ). has_number nums n ≡ false) ((Decides-eqb x.number r).0 q) f)
 
 -- a number in the bag stands there once
 occurs_none : (r n end : ℕ) (bag : List Live) → Rises n bag end → r < n → occurs r bag ≡ 0
@@ -134,13 +134,13 @@ occurs_most r n end (x ∷ bag) h = choice (occurs_most r (x.number + 1) end bag
     choice ih true f = let q = (Decides-eqb x.number r).0 f in rw (occurs_none r (x.number + 1) end bag h.1 (omega arith)) (omega arith)
     choice ih false f = omega arith
 
-occurs_least : (r : ℕ) (t : Live → Bool) (bag : List Live) → is_among (map (λ (x : Live). x.number) (filter t bag)) r ≡ true → 1 ≤ occurs r bag
+occurs_least : (r : ℕ) (t : Live → Bool) (bag : List Live) → has_number (map (λ (x : Live). x.number) (filter t bag)) r ≡ true → 1 ≤ occurs r bag
 occurs_least r t [] h = absurd (cc)
 occurs_least r t (x ∷ bag) h = choice (λ k. occurs_least r t bag k) (t x) (x.number == r) refl h
   where
-    choice : (is_among (map (λ (y : Live). y.number) (filter t bag)) r ≡ true → 1 ≤ occurs r bag) → (b d : Bool) → (x.number == r) ≡ d → is_among (map (λ (y : Live). y.number) (if b then x ∷ filter t bag else filter t bag)) r ≡ true → 1 ≤ (if d then 1 else 0) + occurs r bag
+    choice : (has_number (map (λ (y : Live). y.number) (filter t bag)) r ≡ true → 1 ≤ occurs r bag) → (b d : Bool) → (x.number == r) ≡ d → has_number (map (λ (y : Live). y.number) (if b then x ∷ filter t bag else filter t bag)) r ≡ true → 1 ≤ (if d then 1 else 0) + occurs r bag
     choice ih b true q h = omega arith
-    choice ih true false q h = let k = ih (subst (λ (c : Bool). (c || is_among (map (λ (y : Live). y.number) (filter t bag)) r) ≡ true) q h) in omega arith
+    choice ih true false q h = let k = ih (subst (λ (c : Bool). (c || has_number (map (λ (y : Live). y.number) (filter t bag)) r) ≡ true) q h) in omega arith
     choice ih false false q h = let k = ih h in omega arith
 
 rises_weaker : (m n end : ℕ) (xs : List Live) → m ≤ n → Rises n xs end → Rises m xs end
@@ -151,20 +151,20 @@ rises_append : (n mid end : ℕ) (xs ys : List Live) → Rises n xs mid → Rise
 rises_append n mid end [] ys r s = rises_weaker n mid end ys r s
 rises_append n mid end (x ∷ xs) ys r s = (r.0, rises_append (x.number + 1) mid end xs ys r.1 s)
 
-rises_kept_one : (n end number unit : ℕ) (words : List ℕ) (gs : List (List ℕ)) (rest : List Live) → n ≤ number → Rises (number + 1) rest end → Rises n (kept (record { number = number; unit = unit; words = words; groups = gs }) ++ rest) end
-rises_kept_one n end number unit words [] rest h r = rises_weaker n (number + 1) end rest (omega arith) r
-rises_kept_one n end number unit words (g ∷ gs) rest h r = (h, r)
+rises_kept_one : (n end number unit : ℕ) (words grid : List ℕ) (gs : List (List ℕ)) (rest : List Live) → n ≤ number → Rises (number + 1) rest end → Rises n (kept (record { number = number; unit = unit; words = words; grid = grid; groups = gs }) ++ rest) end
+rises_kept_one n end number unit words grid [] rest h r = rises_weaker n (number + 1) end rest (omega arith) r
+rises_kept_one n end number unit words grid (g ∷ gs) rest h r = (h, r)
 
 rises_kept : (n end : ℕ) (xs : List Live) → Rises n xs end → Rises n (flat_map kept xs) end
 rises_kept n end [] r = r
-rises_kept n end (x ∷ xs) r = rises_kept_one n end x.number x.unit x.words x.groups (flat_map kept xs) r.0 (rises_kept (x.number + 1) end xs r.1)
+rises_kept n end (x ∷ xs) r = rises_kept_one n end x.number x.unit x.words x.grid x.groups (flat_map kept xs) r.0 (rises_kept (x.number + 1) end xs r.1)
 
-rises_left : (n end : ℕ) (nums e : List ℕ) (bag : List Live) → Rises n bag end → Rises n (left_after nums e bag) end
-rises_left n end nums e [] r = r
-rises_left n end nums e (x ∷ bag) r = choice (rises_left (x.number + 1) end nums e bag r.1) (is_among nums x.number)
+rises_left : (n end : ℕ) (nums e : List ℕ) (new : Option (List ℕ)) (bag : List Live) → Rises n bag end → Rises n (left_after nums e new bag) end
+rises_left n end nums e new [] r = r
+rises_left n end nums e new (x ∷ bag) r = choice (rises_left (x.number + 1) end nums e new bag r.1) (has_number nums x.number)
   where
-    choice : Rises (x.number + 1) (left_after nums e bag) end → (b : Bool) → Rises n ((if b then kept (record x { groups = without_group e x.groups }) else x ∷ []) ++ left_after nums e bag) end
-    choice ih true = rises_kept_one n end x.number x.unit x.words (without_group e x.groups) (left_after nums e bag) r.0 ih
+    choice : Rises (x.number + 1) (left_after nums e new bag) end → (b : Bool) → Rises n ((if b then kept (after_group e new x) else x ∷ []) ++ left_after nums e new bag) end
+    choice ih true = rises_kept_one n end x.number x.unit (unwrap_or new x.words) x.grid (without_group e x.groups) (left_after nums e new bag) r.0 ih
     choice ih false = (r.0, ih)
 
 rises_born : (shape : Shape) (n : ℕ) (ss : List Sent) → Rises n (born shape n ss) (n + length ss)
@@ -199,16 +199,16 @@ conserve shape made turns s (e ∷ es) (p ∷ ps) t r at run rises =
     let after = state_after shape s p.launch e.at p.outcome in
     let taken_is : nums ≡ map (λ (x : Live). x.number) (taken nums s.bag) = ap numbers_of step.allowed.records ∙ numbers_taken (taken nums s.bag) in
     let inputs : e.inputs ≡ nums = ap (λ (x : Entry). x.inputs) step.names in
-    let among : is_among nums r ≡ true → occurs r s.bag ≡ 1 = λ h. (let l = occurs_least r (λ (x : Live). is_among nums x.number) s.bag (subst (λ (ns : List ℕ). is_among ns r ≡ true) taken_is h) in let m = occurs_most r 0 s.next s.bag rises in omega arith) in
-    let here = left_step r at e.at p.launch.unit nums s.bag step.allowed.ready in
-    let used : (if same_group e.at at && is_among nums r then occurs r s.bag else 0) ≡ cond (same_group e.at at && is_among e.inputs r) 1 0 =
-    uses_one (same_group e.at at) (is_among nums r) (occurs r s.bag) among ∙ ap (λ (ns : List ℕ). cond (same_group e.at at && is_among ns r) 1 0) (sym inputs) in
-    let count = sum_by-cons (λ (x : Entry). cond (same_group x.at at && is_among x.inputs r) 1 0) e es in
-    let bag : left r at after.bag ≡ left r at (left_after nums e.at s.bag) + left r at (born shape s.next sent) =
-    left_append r at (left_after nums e.at s.bag) (flat_map kept (born shape s.next sent)) ∙ ap (λ (n : ℕ). left r at (left_after nums e.at s.bag) + n) (left_kept r at (born shape s.next sent)) in
+    let among : has_number nums r ≡ true → occurs r s.bag ≡ 1 = λ h. (let l = occurs_least r (λ (x : Live). has_number nums x.number) s.bag (subst (λ (ns : List ℕ). has_number ns r ≡ true) taken_is h) in let m = occurs_most r 0 s.next s.bag rises in omega arith) in
+    let here = left_step r at e.at p.launch.unit nums p.outcome.shared s.bag step.allowed.ready in
+    let used : (if same_group e.at at && has_number nums r then occurs r s.bag else 0) ≡ cond (same_group e.at at && has_number e.inputs r) 1 0 =
+    uses_one (same_group e.at at) (has_number nums r) (occurs r s.bag) among ∙ ap (λ (ns : List ℕ). cond (same_group e.at at && has_number ns r) 1 0) (sym inputs) in
+    let count = sum_by-cons (λ (x : Entry). cond (same_group x.at at && has_number x.inputs r) 1 0) e es in
+    let bag : left r at after.bag ≡ left r at (left_after nums e.at p.outcome.shared s.bag) + left r at (born shape s.next sent) =
+    left_append r at (left_after nums e.at p.outcome.shared s.bag) (flat_map kept (born shape s.next sent)) ∙ ap (λ (n : ℕ). left r at (left_after nums e.at p.outcome.shared s.bag) + n) (left_kept r at (born shape s.next sent)) in
     let new : left r at (born shape s.next (sent ++ sent_by ps)) ≡ left r at (born shape s.next sent) + left r at (born shape (s.next + length sent) (sent_by ps)) =
     ap (left r at) (born_append shape s.next sent (sent_by ps)) ∙ left_append r at (born shape s.next sent) (born shape (s.next + length sent) (sent_by ps)) in
-    let risen : Rises 0 after.bag after.next = rises_append 0 s.next after.next (left_after nums e.at s.bag) (flat_map kept (born shape s.next sent)) (rises_left 0 s.next nums e.at s.bag rises) (rises_kept s.next (s.next + length sent) (born shape s.next sent) (rises_born shape s.next sent)) in
+    let risen : Rises 0 after.bag after.next = rises_append 0 s.next after.next (left_after nums e.at p.outcome.shared s.bag) (flat_map kept (born shape s.next sent)) (rises_left 0 s.next nums e.at p.outcome.shared s.bag rises) (rises_kept s.next (s.next + length sent) (born shape s.next sent) (rises_born shape s.next sent)) in
     let later : left r at after.bag + left r at (born shape after.next (sent_by ps)) ≡ uses r at es + left r at t.bag =
     conserve shape made turns after es ps t r at (subst (λ (u : State). IsRun shape made turns u es ps t) step.becomes run.1) risen in
     omega (arith, here, used, count, bag, new, later)
@@ -230,17 +230,30 @@ left_at shape at k (suc i) (s ∷ ss) =
     let m : k + suc i ≡ k + 1 + i = omega arith in
     rw e (let h = left_at shape at (k + 1) i ss in let j = ap (λ (n : ℕ). left n at (born shape (k + 1) ss)) m in omega arith)
 
-pub once : (shape : Shape) (made : Meaning) (turns : ℕ) (script : List Sent) (buffers : Buffers) (entries : List Entry) (trail : List Passed) (final : State) → IsRun shape made turns (start shape script buffers) entries trail final → IsComplete final → EachOnce (all_born shape script trail) entries
+-- in every run a group of a record was used, or is left, as often as it stands among the record's groups
+counted : (shape : Shape) (made : Meaning) (turns : ℕ) (script : List Sent) (buffers : Buffers) (entries : List Entry) (trail : List Passed) (final : State) (r : ℕ) (at : List ℕ) → IsRun shape made turns (start shape script buffers) entries trail final
+    → uses r at entries + left r at final.bag ≡ times at (groups_at (all_born shape script trail) r)
 unfolding sent_by
-once shape made turns script buffers entries trail final run empty = λ r at.
+counted shape made turns script buffers entries trail final r at run =
     let s = start shape script buffers in
     let rises : Rises 0 s.bag s.next = subst (λ (k : ℕ). Rises 0 (flat_map kept (born shape 0 script)) k) (let z : 0 + length script ≡ length script = omega arith in z) (rises_kept 0 (0 + length script) (born shape 0 script) (rises_born shape 0 script)) in
     let c = conserve shape made turns s entries trail final r at run rises in
-    let e = ap (left r at) empty in
     let all : left r at (born shape 0 (script ++ sent_by trail)) ≡ left r at (born shape 0 script) + left r at (born shape (length script) (sent_by trail)) =
     ap (left r at) (born_append shape 0 script (sent_by trail)) ∙ (left_append r at (born shape 0 script) (born shape (0 + length script) (sent_by trail)) ∙ ap (λ (k : ℕ). left r at (born shape 0 script) + left r at (born shape k (sent_by trail))) (let z : 0 + length script ≡ length script = omega arith in z)) in
     let first = left_kept r at (born shape 0 script) in
     let place = left_at shape at 0 r (script ++ sent_by trail) in
     let z : 0 + r ≡ r = omega arith in
     let place' = ap (λ (k : ℕ). left k at (born shape 0 (script ++ sent_by trail))) z in
-    omega (arith, c, e, all, first, place, place')
+    omega (arith, c, all, first, place, place')
+
+pub at_most_once : (shape : Shape) (made : Meaning) (turns : ℕ) (script : List Sent) (buffers : Buffers) (entries : List Entry) (trail : List Passed) (final : State) → IsRun shape made turns (start shape script buffers) entries trail final
+    → (r : ℕ) (at : List ℕ) → uses r at entries ≤ times at (groups_at (all_born shape script trail) r)
+at_most_once shape made turns script buffers entries trail final run = λ r at.
+    let c = counted shape made turns script buffers entries trail final r at run in
+    omega (arith, c)
+
+pub once : (shape : Shape) (made : Meaning) (turns : ℕ) (script : List Sent) (buffers : Buffers) (entries : List Entry) (trail : List Passed) (final : State) → IsRun shape made turns (start shape script buffers) entries trail final → IsComplete final → EachOnce (all_born shape script trail) entries
+once shape made turns script buffers entries trail final run empty = λ r at.
+    let c = counted shape made turns script buffers entries trail final r at run in
+    let e = ap (left r at) empty in
+    omega (arith, c, e)

@@ -6,11 +6,11 @@ use Rattle.wg_machine.specs.declared.launch.Launch.{Launch}
 use Rattle.wg_machine.specs.Buffers.{Buffers, lengths_of, buffer_at, word_at}
 use Rattle.wg_machine.specs.Grids.{grid_of}
 use Rattle.wg_machine.specs.LaunchMeaning.{Meaning, Outcome, FitsShape}
-use Rattle.wg_machine.specs.Units.{kind_at, most_inputs}
+use Rattle.wg_machine.specs.Units.{kind_at, is_coalescing, shared_at}
 
 -- buffers of these lengths, all of zeros
-abbrev pub zeros : List ℕ → Buffers
-zeros lengths = map (λ n. replicate n 0) lengths
+abbrev pub zero_buffers : List ℕ → Buffers
+zero_buffers lengths = map (λ n. replicate n 0) lengths
 
 -- Each word is one of 32 bits: a definition's numbers have no bound of their own.
 abbrev pub AreWords : Buffers → Type 0
@@ -35,23 +35,24 @@ DoesTheSame before (Some on_zeros) (Some on_before) = OnlyAdds before on_zeros o
 DoesTheSame before None (Some o) = ⊥
 DoesTheSame before (Some o) None = ⊥
 
-abbrev pub unnumbered : Record → Record
-unnumbered r = record { number = 0; words = r.words }
+abbrev pub unnumbered_record : Record → Record
+unnumbered_record r = record { number = 0; words = r.words }
 
 -- a launch without the numbers of its records
-abbrev pub plain : Launch → Launch
-plain l = record { unit = l.unit; records = map unnumbered l.records; group = l.group; grid = l.grid; last = false }
+abbrev pub unnumbered_launch : Launch → Launch
+unnumbered_launch l = record { unit = l.unit; records = map unnumbered_record l.records; group = l.group; grid = l.grid; last = false }
 
--- Additive bodies: no launch takes two records, and a launch does on all buffers what it does on zeros of their
+-- Additive bodies: no unit coalesces, none is shared, and a launch does on all buffers what it does on zeros of their
 -- lengths, whatever the numbers of its records are, but for the words that it adds to.
 pub record IsAdditive (shape : Shape) (made : Meaning) : Type 0 where
-  pub single : (u : ℕ) → most_inputs (kind_at shape u) ≡ 1
-  pub adds : (l : Launch) (m : Buffers) (turns : ℕ) → FitsShape shape l → AreWords m
-      → DoesTheSame m (made (plain l) (zeros (lengths_of m)) turns) (made l m turns)
+  pub none_coalesces : (u : ℕ) → is_coalescing (kind_at shape u) ≡ false
+  pub none_shared : (u : ℕ) → shared_at shape u ≡ false
+  pub adds : (l : Launch) (m : Buffers) (turns : ℕ) → FitsShape shape l → l.last ≡ false → AreWords m
+      → DoesTheSame m (made (unnumbered_launch l) (zero_buffers (lengths_of m)) turns) (made l m turns)
 
 -- the launch of one group of a record, without its number
-abbrev pub launch_of : Shape → ℕ → List ℕ → ℕ → Launch
-launch_of shape unit words place =
+abbrev pub group_launch : Shape → ℕ → List ℕ → ℕ → Launch
+group_launch shape unit words place =
     record {
       unit = unit;
       records = record { number = 0; words = words } ∷ [];

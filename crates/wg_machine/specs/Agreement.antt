@@ -1,4 +1,4 @@
--- What a launch's memory remembers, and the start buffers that fit it. This project's own.
+-- What a launch's memory remembers, and the start buffers that agree with it. This project's own.
 use Rattle.std.specs.Prelude.{◌≡◌, ℕ, ◌==◌, Bool, List, IsTrue}
 use Rattle.std.specs.List.{list_all}
 use Rattle.wg_machine.specs.declared.memory.Seen.{Seen}
@@ -19,9 +19,9 @@ pub record Trace : Type 0 where
   pub log : List Seen
   pub writes : List Write
 
--- start buffers fit a memory where they agree with what it knows
-abbrev pub Fits : Trace → Buffers → Type 0
-Fits trace start = Agrees (lengths_of trace.over) trace.log start
+-- start buffers agree with what a memory knows
+abbrev pub AgreesWith : Trace → Buffers → Type 0
+AgreesWith trace start = Agrees (lengths_of trace.over) trace.log start
 
 -- the buffers now of a start
 abbrev pub now_of : Trace → Buffers → Buffers

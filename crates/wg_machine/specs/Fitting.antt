@@ -1,5 +1,5 @@
 -- Bags whose records fit a shape, and bodies that keep the laws. This project's own.
-use Rattle.std.specs.Prelude.{◌≡◌, ℕ, ◌<◌, ◌≤◌, List, length, IfSome}
+use Rattle.std.specs.Prelude.{◌≡◌, ℕ, ◌<◌, ◌≤◌, false, List, length, IfSome}
 use Rattle.wg_words.specs.Each.{Each}
 use Rattle.wg_machine.specs.declared.launch.Launch.{Launch}
 use Rattle.wg_machine.specs.declared.launch.Live.{Live}
@@ -10,13 +10,17 @@ use Rattle.wg_machine.specs.Grids.{grid_of, groups_of}
 use Rattle.wg_machine.specs.LaunchMeaning.{Meaning, FitsShape, KeepsLaws}
 use Rattle.wg_machine.specs.Run.{times}
 use Rattle.wg_machine.specs.State.{State}
-use Rattle.wg_machine.specs.Units.{kind_at, words_at}
+use Rattle.wg_machine.specs.Units.{kind_at, words_at, shared_at}
 
--- a live record is of a unit of the shape, has its words, and its groups are groups of its grid, each at most once
+-- A live record is of a unit of the shape, and has as many words as that. Its grid is that of its words at its birth,
+-- which stay where the unit is not shared. Its groups are groups of its grid, each at most once.
 pub record IsFitting (shape : Shape) (r : Live) : Type 0 where
   pub unit : r.unit < length shape.units
   pub words : length r.words ≡ words_at shape r.unit
-  pub groups : (at : List ℕ) → times at r.groups ≤ times at (groups_of (grid_of (kind_at shape r.unit) r.words))
+  pub first_words : List ℕ
+  pub grid : r.grid ≡ grid_of (kind_at shape r.unit) first_words
+  pub stays : shared_at shape r.unit ≡ false → first_words ≡ r.words
+  pub groups : (at : List ℕ) → times at r.groups ≤ times at (groups_of r.grid)
 
 abbrev pub BagFits : Shape → List Live → Type 0
 BagFits shape bag = Each (IsFitting shape) bag

@@ -8,7 +8,7 @@ use Rattle.wg_machine.specs.declared.shape.Output.{Output}
 use Rattle.wg_words.specs.Each.{Each}
 use Rattle.wg_machine.specs.declared.shape.Shape.{Shape}
 use Rattle.wg_machine.specs.declared.shape.Unit.{Unit}
-use Rattle.wg_machine.specs.Units.{stride_of}
+use Rattle.wg_machine.specs.Units.{is_broadcasting, stride_of}
 use Rattle.wg_machine.specs.Unrolling.{unrolled, node_and_level, depth_of, IsFirst}
 
 -- a letter, or `_`
@@ -81,6 +81,7 @@ pub record IsGoodUnit (shape : Shape) (k : ℕ) (u : Unit) : Type 0 where
   pub few_outputs : length u.outputs ≤ 64
   pub outputs : Each (IsGoodOutput shape u) u.outputs
   pub bools : RisesBelow 0 u.words u.bools
+  pub shared : IsTrue u.shared → IsTrue (is_broadcasting u.kind)
 
 -- what the levels of a node have in common
 abbrev pub form_of : Output → ℕ × ℕ × ℕ
@@ -91,6 +92,7 @@ pub record IsAlike (a b : Unit) : Type 0 where
   pub kind : a.kind ≡ b.kind
   pub budgets : a.budgets ≡ b.budgets
   pub bools : a.bools ≡ b.bools
+  pub shared : a.shared ≡ b.shared
   pub outputs : map form_of a.outputs ≡ map form_of b.outputs
 
 -- the units are the nodes at their levels, in order

@@ -1,5 +1,5 @@
 -- The grid of thread groups that a record launches (Work Graphs, "Broadcasting launch nodes").
-use Rattle.std.specs.Prelude.{ℕ, ◌+◌, ◌*◌, ◌==◌, ◌&&◌, min, nat_lt, Bool, if◌then◌else◌, List, [], ◌∷◌, map, slice_index}
+use Rattle.std.specs.Prelude.{ℕ, ◌+◌, ◌*◌, ◌==◌, ◌&&◌, min, nat_lt, Bool, if◌then◌else◌, List, [], ◌∷◌, length, map, slice_index}
 use Rattle.std.specs.List.{list_any, flat_map, range_with_len}
 use Rattle.wg_machine.specs.declared.shape.Kind.{Kind}
 use Rattle.wg_machine.specs.declared.shape.Kind.TheVariants.{Thread, Coalescing, Grid, GridField}
@@ -31,9 +31,11 @@ abbrev pub place_of : List ℕ → List ℕ → ℕ
 place_of grid at =
     slice_index at 2 * slice_index grid 0 * slice_index grid 1 + slice_index at 1 * slice_index grid 0 + slice_index at 0
 
+-- the same coordinates, and as many
 abbrev pub same_group : List ℕ → List ℕ → Bool
 same_group a b =
-    (slice_index a 0 == slice_index b 0) && (slice_index a 1 == slice_index b 1) && (slice_index a 2 == slice_index b 2)
+    (length a == length b) && (slice_index a 0 == slice_index b 0) && (slice_index a 1 == slice_index b 1)
+    && (slice_index a 2 == slice_index b 2)
 
 abbrev pub has_group : List (List ℕ) → List ℕ → Bool
 has_group groups at = list_any (λ (g : List ℕ). same_group g at) groups

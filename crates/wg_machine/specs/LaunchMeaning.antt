@@ -1,5 +1,5 @@
 -- What a launch does, and the laws that every implementation of bodies proves of it.
-use Rattle.std.specs.Prelude.{◌≡◌, ⊤, ℕ, ◌^◌, ◌≤◌, ◌<◌, ◌==◌, None, Option, Some, List, [], ◌∷◌, length, Contains, slice_get, slice_index, count_by}
+use Rattle.std.specs.Prelude.{◌≡◌, ⊤, ℕ, Bool, true, false, ◌^◌, ◌≤◌, ◌<◌, ◌==◌, None, Option, Some, List, [], ◌∷◌, length, Contains, slice_get, slice_index, count_by}
 use Rattle.wg_machine.specs.declared.shape.Output.{Output}
 use Rattle.wg_words.specs.Each.{Each}
 use Rattle.wg_machine.specs.declared.shape.Shape.{Shape}
@@ -10,32 +10,35 @@ use Rattle.wg_machine.specs.declared.launch.Launch.{Launch}
 use Rattle.wg_machine.specs.declared.launch.Record.{Record}
 use Rattle.wg_machine.specs.declared.launch.Sent.{Sent}
 use Rattle.wg_machine.specs.declared.launch.Made.{Made}
-use Rattle.wg_machine.specs.Agreement.{Trace, Fits, now_of}
+use Rattle.wg_machine.specs.Agreement.{Trace, AgreesWith, now_of}
 use Rattle.wg_machine.specs.Buffers.{Buffers, lengths_of}
 use Rattle.wg_machine.specs.Grids.{groups_in}
-use Rattle.wg_machine.specs.Units.{kind_at, words_at, most_inputs}
+use Rattle.wg_machine.specs.Units.{kind_at, words_at, shared_at, most_inputs}
 
--- what a launch that is not spent did: what it sent, its denied requests, its turns, the buffers after it
+-- what a launch that is not spent did: what it sent, its denied requests, its turns, the buffers after it, and the new
+-- words of a record that its groups share
 pub record Outcome : Type 0 where
   pub sent : List Sent
   pub denied : ℕ
   pub turns : ℕ
   pub buffers : Buffers
+  pub shared : Option (List ℕ)
 
 -- What a launch does to buffers within a number of turns; none where it is spent: where it would make one turn more.
 abbrev pub Meaning : Type 0
 Meaning = Launch → Buffers → ℕ → Option Outcome
 
 abbrev pub outcome_of : Made → Buffers → Outcome
-outcome_of made buffers = record { sent = made.sent; denied = made.denied; turns = made.turns; buffers = buffers }
+outcome_of made buffers =
+    record { sent = made.sent; denied = made.denied; turns = made.turns; buffers = buffers; shared = made.shared }
 
--- what a launch made over a memory is what it means, for each start that fits the memory afterwards
+-- what a launch made over a memory is what it means, for each start that agrees with the memory afterwards
 abbrev pub Makes : Meaning → Launch → ℕ → Trace → Trace → Made → Type 0
 Makes made launch turns old new m =
-    (start : Buffers) → Fits new start → made launch (now_of old start) turns ≡ Some (outcome_of m (now_of new start))
+    (start : Buffers) → AgreesWith new start → made launch (now_of old start) turns ≡ Some (outcome_of m (now_of new start))
 
 abbrev pub Spends : Meaning → Launch → ℕ → Trace → Trace → Type 0
-Spends made launch turns old new = (start : Buffers) → Fits new start → made launch (now_of old start) turns ≡ None
+Spends made launch turns old new = (start : Buffers) → AgreesWith new start → made launch (now_of old start) turns ≡ None
 
 -- thread and coalescing launches have one group
 abbrev pub HasGridOf : Kind → List ℕ → Type 0
@@ -82,6 +85,13 @@ pub record KeepsBudgets (unit : Unit) (sent : List Sent) : Type 0 where
   pub each_goes : AllGoThrough unit through sent
   pub few : (b : ℕ) → count_by (λ c. c == b) through ≤ slice_index unit.budgets b
 
+-- new words where the unit is shared, as many as the unit's, and none at another unit
+abbrev pub HasNewWords : Bool → ℕ → Option (List ℕ) → Type 0
+HasNewWords true words (Some new) = length new ≡ words
+HasNewWords true words None = ⊥
+HasNewWords false words (Some new) = ⊥
+HasNewWords false words None = ⊤
+
 -- What every launch that is not spent keeps to.
 pub record KeepsLaws (shape : Shape) (launch : Launch) (buffers : Buffers) (turns : ℕ) (o : Outcome) : Type 0 where
   pub turns_few : o.turns ≤ turns
@@ -89,3 +99,4 @@ pub record KeepsLaws (shape : Shape) (launch : Launch) (buffers : Buffers) (turn
   pub lengths : lengths_of o.buffers ≡ lengths_of buffers
   pub arrive : Each (Arrives shape) o.sent
   pub budgets : (u : Unit) → slice_get shape.units launch.unit ≡ Some u → KeepsBudgets u o.sent
+  pub shared : HasNewWords (shared_at shape launch.unit) (words_at shape launch.unit) o.shared

@@ -1,7 +1,8 @@
 -- Runs of the machine, and what a journal uses of each record.
-use Rattle.std.specs.Prelude.{◌≡◌, ℕ, ◌&&◌, List, [], ◌∷◌, ◌++◌, slice_get, unwrap_or, sum_by, count_by}
+use Rattle.std.specs.Prelude.{◌≡◌, ℕ, ◌&&◌, List, [], ◌∷◌, ◌++◌, length, Contains, slice_get, unwrap_or, sum_by, count_by}
 use Rattle.std.specs.List.{flat_map}
 use Rattle.std.specs.Option.{option_map}
+use Rattle.wg_words.specs.Each.{Each}
 use Rattle.wg_machine.specs.declared.shape.Shape.{Shape}
 use Rattle.wg_machine.specs.declared.launch.Live.{Live}
 use Rattle.wg_machine.specs.declared.launch.Sent.{Sent}
@@ -9,7 +10,7 @@ use Rattle.wg_machine.specs.declared.launch.Entry.{Entry}
 use Rattle.wg_machine.specs.Grids.{same_group}
 use Rattle.wg_machine.specs.LaunchMeaning.{Meaning}
 use Rattle.wg_machine.specs.State.{State, born}
-use Rattle.wg_machine.specs.Step.{Passed, Step, is_among}
+use Rattle.wg_machine.specs.Step.{Passed, Step, has_number}
 
 -- One step after another. The entries are the journal; the trail tells what each of them stands for.
 abbrev pub IsRun : Shape → Meaning → ℕ → State → List Entry → List Passed → State → Type 0
@@ -33,7 +34,7 @@ denied_of trail = sum_by (λ (p : Passed). p.outcome.denied) trail
 
 -- how many entries take a group of a record
 abbrev pub uses : ℕ → List ℕ → List Entry → ℕ
-uses r at entries = count_by (λ (e : Entry). same_group e.at at && is_among e.inputs r) entries
+uses r at entries = count_by (λ (e : Entry). same_group e.at at && has_number e.inputs r) entries
 
 -- each record of a run that came to be, in order of number, with all its groups
 abbrev pub all_born : Shape → List Sent → List Passed → List Live
@@ -50,3 +51,8 @@ times at groups = count_by (λ (g : List ℕ). same_group g at) groups
 -- Each group of each record is taken once, and nothing else is.
 abbrev pub EachOnce : List Live → List Entry → Type 0
 EachOnce all entries = (r : ℕ) (at : List ℕ) → uses r at entries ≡ times at (groups_at all r)
+
+-- An entry has three coordinates, and they name a group of each record that it takes: one of the grid of its birth.
+pub record NamesGroup (all : List Live) (e : Entry) : Type 0 where
+  pub three : length e.at ≡ 3
+  pub of_each : Each (λ r. Contains (groups_at all r) e.at) e.inputs

@@ -14,10 +14,16 @@ pub record State : Type 0 where
   pub next : ℕ
   pub buffers : Buffers
 
--- a record with all the groups of its grid
+-- a record with its grid, which is fixed at its birth, and all the groups of that
 abbrev pub live_of : Shape → ℕ → Sent → Live
 live_of shape number s =
-    record { number = number; unit = s.unit; words = s.words; groups = groups_of (grid_of (kind_at shape s.unit) s.words) }
+    record {
+      number = number;
+      unit = s.unit;
+      words = s.words;
+      grid = grid_of (kind_at shape s.unit) s.words;
+      groups = groups_of (grid_of (kind_at shape s.unit) s.words);
+    }
 
 -- records that come to be, numbered on from a number
 abbrev pub born : Shape → ℕ → List Sent → List Live

@@ -2,7 +2,7 @@
 use Rattle.std.specs.Prelude.{◌≡◌, ℕ, zero, suc, ◌+◌, ◌-◌, ◌%◌, ◌^◌, ◌<◌, List, length, sum_by, Option, Some, None}
 use Rattle.wg_machine.specs.declared.shape.Shape.{Shape}
 use Rattle.wg_machine.specs.declared.launch.Sent.{Sent}
-use Rattle.wg_machine.specs.Additive.{zeros, launch_of}
+use Rattle.wg_machine.specs.Additive.{zero_buffers, group_launch}
 use Rattle.wg_machine.specs.Buffers.{Buffers, lengths_of, buffer_at, word_at}
 use Rattle.wg_machine.specs.Grids.{grid_of, groups_of, place_of}
 use Rattle.wg_machine.specs.LaunchMeaning.{Meaning, Outcome}
@@ -24,7 +24,7 @@ added_by q total (Some o) = word_at o.buffers q.buffer q.word + sum_by (λ (s : 
 
 -- what one group of a record adds
 abbrev pub group_adds : Question → (ℕ → List ℕ → ℕ) → ℕ → List ℕ → ℕ → ℕ
-group_adds q total unit words place = added_by q total (q.made (launch_of q.shape unit words place) (zeros q.lengths) q.turns)
+group_adds q total unit words place = added_by q total (q.made (group_launch q.shape unit words place) (zero_buffers q.lengths) q.turns)
 
 -- what these groups add
 abbrev pub groups_add : Question → (ℕ → List ℕ → ℕ) → ℕ → List ℕ → List (List ℕ) → ℕ

@@ -1,5 +1,5 @@
--- What a shape says of a unit by its number; 0, or thread launch, where it has no such unit.
-use Rattle.std.specs.Prelude.{ℕ, ◌*◌, max, slice_get, unwrap_or}
+-- What a shape says of a unit by its number; 0, false or thread launch where it has no such unit.
+use Rattle.std.specs.Prelude.{ℕ, ◌*◌, max, Bool, true, false, slice_get, unwrap_or}
 use Rattle.std.specs.Option.{option_map}
 use Rattle.wg_machine.specs.declared.shape.Kind.{Kind}
 use Rattle.wg_machine.specs.declared.shape.Kind.TheVariants.{Thread, Coalescing, Grid, GridField}
@@ -18,6 +18,10 @@ stride_at shape u = unwrap_or (option_map (λ (n : Unit). n.stride) (slice_get s
 abbrev pub depth_at : Shape → ℕ → ℕ
 depth_at shape u = unwrap_or (option_map (λ (n : Unit). n.depth) (slice_get shape.units u)) 0
 
+-- whether the groups of a record share its words (Work Graphs, "RWDispatchNodeInputRecord")
+abbrev pub shared_at : Shape → ℕ → Bool
+shared_at shape u = unwrap_or (option_map (λ (n : Unit). n.shared) (slice_get shape.units u)) false
+
 -- the bytes of a slot for records of so many words; this project's own rule
 abbrev pub stride_of : ℕ → ℕ
 stride_of words = max 4 (4 * words)
@@ -28,3 +32,15 @@ most_inputs Thread = 1
 most_inputs (Coalescing most) = most
 most_inputs (Grid x y z) = 1
 most_inputs (GridField first parts x y z) = 1
+
+abbrev pub is_coalescing : Kind → Bool
+is_coalescing Thread = false
+is_coalescing (Coalescing most) = true
+is_coalescing (Grid x y z) = false
+is_coalescing (GridField first parts x y z) = false
+
+abbrev pub is_broadcasting : Kind → Bool
+is_broadcasting Thread = false
+is_broadcasting (Coalescing most) = false
+is_broadcasting (Grid x y z) = true
+is_broadcasting (GridField first parts x y z) = true

@@ -1,11 +1,12 @@
-ghost use Rattle.std.specs.Prelude.{◌≡◌, ℕ, Bool, IsTrue, IfOk, OnOk, IsErrOf, IfSome, None};
+ghost use Rattle.std.specs.Prelude.{◌≡◌, ℕ, Bool, IsTrue, IfOk, OnOk, IsErrOf, IfSome};
 ghost use Rattle.wg_machine.specs.declared.shape.Shape.{Shape as Graph};
 ghost use Rattle.wg_machine.specs.declared.launch.Launch.{Launch as Launched};
 ghost use Rattle.wg_machine.specs.declared.bodies.Halt.TheVariants.{Turns};
 ghost use Rattle.wg_machine.specs.Buffers.{Buffers};
 ghost use Rattle.wg_machine.specs.Effects.{Grows};
 ghost use Rattle.wg_machine.specs.GoodShape.{IsGoodShape};
-ghost use Rattle.wg_machine.specs.LaunchMeaning.{Meaning, FitsShape, Makes, Spends, KeepsLaws};
+ghost use Rattle.wg_machine.specs.LaunchMeaning.{Meaning, FitsShape, Makes, Spends, HasNewWords, KeepsLaws};
+ghost use Rattle.wg_machine.specs.Units.{shared_at, words_at};
 
 use crate::{Launch, Made, Memory, Shape};
 
@@ -37,9 +38,10 @@ pub trait Bodies {
         ensures grows { OnOk result (Grows (M.trace mem.old) (M.trace mem.new)) }
         ensures makes { IfOk result (Makes (made self.now) launch.now turns (M.trace mem.old) (M.trace mem.new)) }
         ensures grows_when_spent { IsErrOf result Turns → Grows (M.trace mem.old) (M.trace mem.new) }
-        ensures unshared { IfOk result (λ m. m.shared ≡ None) }
+        ensures shares { IfOk result (λ m. HasNewWords (shared_at (graph self.now) launch.now.unit) (words_at (graph self.now) launch.now.unit) m.shared) }
         ensures spends { IsErrOf result Turns → Spends (made self.now) launch.now turns (M.trace mem.old) (M.trace mem.new) }
-        ensures silent { IsTrue (quiet self.now) → OnOk result ((M.trace mem.new).log ≡ (M.trace mem.old).log) };
+        ensures silent { IsTrue (quiet self.now) → OnOk result ((M.trace mem.new).log ≡ (M.trace mem.old).log) }
+        ensures silent_when_spent { IsTrue (quiet self.now) → IsErrOf result Turns → (M.trace mem.new).log ≡ (M.trace mem.old).log };
 
     /// A launch that is not spent keeps to the laws of a launch.
     ghost lawful: { (b : Self) (l : Launched) (m : Buffers) (t : ℕ) → IsGoodShape (graph b) → FitsShape (graph b) l → IfSome (made b l m t) (KeepsLaws (graph b) l m t) };

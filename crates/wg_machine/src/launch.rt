@@ -30,19 +30,21 @@ pub struct Sent {
     pub words: Words,
 }
 
-/// A record that is not yet consumed, with the groups that have not run.
+/// A record that is not yet consumed, with the grid of its birth and the groups of it that have not run.
 #[derive(Debug, Drop)]
 pub struct Live {
     pub number: u64,
     pub unit: u32,
     pub words: Words,
+    pub grid: [u32; 3],
     pub groups: Groups,
 }
 
 /// One thread group, or one thread of a thread-launch node, with the records that it takes.
 ///
-/// `group` is the linear number in `grid`, x running fastest; for thread and coalescing launches it is 0 and the
-/// grid 1 1 1. `last` is false until records are shared between groups.
+/// `group` is the linear number in `grid`, that of the record's birth, x running fastest; for thread and coalescing
+/// launches it is 0 and the grid 1 1 1. `last` is true where the unit is shared and this is the last group of its
+/// record that has not run.
 #[derive(Debug, Drop)]
 pub struct Launch {
     pub unit: u32,
@@ -53,7 +55,7 @@ pub struct Launch {
 }
 
 /// What a launch made, beside what it did to the buffers: the records that it sent by output parameter, element,
-/// request and index, its denied requests, and its turns. `shared` is none until records are shared between groups.
+/// request and index, its denied requests, and its turns. `shared` has the record's new words where the unit is shared.
 #[derive(Debug, Drop)]
 pub struct Made {
     pub sent: SentList,

@@ -1,4 +1,4 @@
-ghost use Rattle.std.specs.Prelude.{◌≡◌, ◌≢◌, ◌≤◌, ◌<◌, ◌*◌, ◌==◌, [], length, List, ℕ, slice_get, Some, count_by};
+ghost use Rattle.std.specs.Prelude.{◌≡◌, ◌≢◌, ◌≤◌, ◌<◌, ◌*◌, ◌==◌, [], length, IsTrue, List, ℕ, count_by};
 ghost use Rattle.wg_machine.specs.declared.shape.Shape.{Shape as Graph};
 ghost use Rattle.wg_machine.specs.declared.shape.Unit.{Unit as Node};
 ghost use Rattle.wg_machine.specs.declared.launch.Entry.{Entry as Line};
@@ -7,19 +7,19 @@ ghost use Rattle.wg_machine.specs.declared.launch.Live.{Live as Waiting};
 ghost use Rattle.wg_machine.specs.declared.launch.Sent.{Sent as Record};
 ghost use Rattle.wg_machine.specs.Additive.{AreWords, IsAdditive};
 ghost use Rattle.wg_machine.specs.Buffers.{Buffers, lengths_of};
-ghost use Rattle.wg_machine.specs.Bytes.{KeepsSlots, live_bytes, plan_bytes};
+ghost use Rattle.wg_machine.specs.Bytes.{KeepsSlots, live_bytes, peak, plan_bytes};
 ghost use Rattle.wg_machine.specs.Choice.{SomeHasRoom};
 ghost use Rattle.wg_words.specs.Each.{Each};
 ghost use Rattle.wg_machine.specs.Fitting.{BagFits, StateFits, IsLawful, SendsOne, OnlyThreads};
-ghost use Rattle.wg_machine.specs.Grids.{groups_of};
+ghost use Rattle.wg_machine.specs.Grids.{groups_in, groups_of, has_group, place_of};
 ghost use Rattle.wg_machine.specs.GoodShape.{IsGoodShape};
 ghost use Rattle.wg_machine.specs.LaunchMeaning.{Meaning, Outcome, Arrives, FitsShape, KeepsBudgets, KeepsLaws};
 ghost use Rattle.wg_machine.specs.Need.{need_of};
-ghost use Rattle.wg_machine.specs.Run.{IsRun, IsComplete, EachOnce, EachState, all_born, times};
+ghost use Rattle.wg_machine.specs.Run.{IsRun, IsComplete, EachOnce, EachState, NamesGroup, all_born, groups_at, times, uses};
 ghost use Rattle.wg_machine.specs.State.{State, start};
-ghost use Rattle.wg_machine.specs.Step.{Passed, Allows};
+ghost use Rattle.wg_machine.specs.Step.{Passed, Step, Allows, launch_in, numbers_of};
 ghost use Rattle.wg_machine.specs.Totals.{EndsWithTotals};
-ghost use Rattle.wg_machine.specs.Units.{depth_at};
+ghost use Rattle.wg_machine.specs.Units.{depth_at, stride_at};
 
 /// A complete run takes each group of each record once.
 pub fn each_once()
@@ -27,6 +27,22 @@ pub fn each_once()
         (entries : List Line) (trail : List Passed) (final : State)
         → IsRun shape made turns (start shape script buffers) entries trail final → IsComplete final
         → EachOnce (all_born shape script trail) entries }
+{}
+
+/// A run, complete or not, takes no group of a record more often than its grid has it.
+pub fn none_twice()
+    ensures { (shape : Graph) (made : Meaning) (turns : ℕ) (script : List Record) (buffers : Buffers)
+        (entries : List Line) (trail : List Passed) (final : State)
+        → IsRun shape made turns (start shape script buffers) entries trail final
+        → (r : ℕ) (at : List ℕ) → uses r at entries ≤ times at (groups_at (all_born shape script trail) r) }
+{}
+
+/// Each entry of a run names a group of the grid that its records had at their birth, by three numbers.
+pub fn entries_name_groups()
+    ensures { (shape : Graph) (made : Meaning) (turns : ℕ) (script : List Record) (buffers : Buffers)
+        (entries : List Line) (trail : List Passed) (final : State)
+        → IsRun shape made turns (start shape script buffers) entries trail final
+        → Each (NamesGroup (all_born shape script trail)) entries }
 {}
 
 /// A launch that keeps the budgets of its unit sends no more to any unit than is needed of it.
@@ -41,6 +57,12 @@ pub fn slots_hold_bytes()
         → KeepsSlots shape width entries s → live_bytes shape entries s ≤ plan_bytes shape width }
 {}
 
+/// A run whose every state keeps the slots of a plan has its peak within the plan's bytes.
+pub fn peak_is_within_plan()
+    ensures { (shape : Graph) (width entries : ℕ) (s : State) (trail : List Passed)
+        → EachState (KeepsSlots shape width entries) s trail → peak shape entries s trail ≤ plan_bytes shape width }
+{}
+
 /// With nothing reserved and the slots of a plan kept, some unit with a live record has room: the deepest one.
 pub fn something_has_room()
     ensures { (shape : Graph) (width entries : ℕ) (s : State)
@@ -53,10 +75,44 @@ pub fn no_group_twice()
     ensures { (grid at : List ℕ) → times at (groups_of grid) ≤ 1 }
 {}
 
+/// A group of a grid has its linear number below the number of the grid's groups.
+pub fn groups_lie_in_grids()
+    ensures { (grid at : List ℕ) → IsTrue (has_group (groups_of grid) at) → place_of grid at < groups_in grid }
+{}
+
+/// A good shape has at most 8,192 units: 256 nodes at 32 levels.
+pub fn few_units()
+    ensures { (shape : Graph) → IsGoodShape shape → length shape.units ≤ 8192 }
+{}
+
+/// A slot of a good shape has at most 8,192 bytes.
+pub fn strides_are_small()
+    ensures { (shape : Graph) (u : ℕ) → IsGoodShape shape → stride_at shape u ≤ 8192 }
+{}
+
+/// A launch that keeps the laws sends at most 16,384 records: through 64 outputs, with budgets of at most 256.
+pub fn few_are_sent()
+    ensures { (shape : Graph) (launch : Launched) (buffers : Buffers) (turns : ℕ) (o : Outcome)
+        → IsGoodShape shape → FitsShape shape launch → KeepsLaws shape launch buffers turns o → length o.sent ≤ 16384 }
+{}
+
+/// An allowed launch is told by its unit, its group and its records' numbers: the bag has the rest.
+pub fn allowed_is_launch_in()
+    ensures { (shape : Graph) (bag : List Waiting) (launch : Launched) (at : List ℕ)
+        → Allows shape bag launch at → launch ≡ launch_in shape bag launch.unit at (numbers_of launch.records) }
+{}
+
 /// A launch that a bag of fitting records allows fits the shape.
 pub fn allowed_launches_fit()
     ensures { (shape : Graph) (bag : List Waiting) (launch : Launched) (at : List ℕ)
         → IsGoodShape shape → BagFits shape bag → Allows shape bag launch at → FitsShape shape launch }
+{}
+
+/// A step of lawful bodies keeps a state fitting.
+pub fn steps_fit()
+    ensures { (shape : Graph) (made : Meaning) (turns : ℕ) (lengths : List ℕ) (s : State) (e : Line) (p : Passed)
+        → IsGoodShape shape → IsLawful shape made → StateFits shape lengths s → Step shape made turns s e p
+        → StateFits shape lengths p.after }
 {}
 
 /// Every state of a run of lawful bodies fits the shape and keeps the buffers' lengths.

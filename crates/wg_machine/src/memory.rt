@@ -1,7 +1,7 @@
 ghost use Rattle.std.specs.Prelude.{◌≡◌, length, IfOk, OnOk};
 ghost use Rattle.wg_machine.specs.declared.memory.Write.TheVariants.{Set, Add};
 ghost use Rattle.wg_machine.specs.Buffers.{Buffers, buffer_at, word_at};
-ghost use Rattle.wg_machine.specs.Agreement.{Trace, Fits};
+ghost use Rattle.wg_machine.specs.Agreement.{Trace, AgreesWith};
 ghost use Rattle.wg_machine.specs.Effects.{Reads, Writes as Wrote, Exchanges, OnlyLogs, OnlyWrites, LogsAndWrites};
 
 use std::alloc::AllocError;
@@ -56,7 +56,7 @@ pub trait View {
 
 /// Shared buffers as a launch sees and changes them.
 ///
-/// A call speaks of all start buffers that fit what was read: its answer is that of the buffers now of each such
+/// A call speaks of all start buffers that agree with what was read: its answer is that of the buffers now of each such
 /// start. After want of memory it is only dropped.
 pub trait Memory {
     /// What it was made over, what was read and what was written.
@@ -91,6 +91,6 @@ pub trait Memory {
         ensures changes { OnOk result (LogsAndWrites buffer word (trace self.old) (trace self.new)) }
         ensures exchanged { IfOk result (Exchanges (trace self.old) (trace self.new) op buffer word compare value) };
 
-    /// What it was made over fits it at every moment.
-    ghost fits: { (m : Self) → Fits (trace m) (trace m).over };
+    /// What it was made over agrees with it at every moment.
+    ghost fits: { (m : Self) → AgreesWith (trace m) (trace m).over };
 }

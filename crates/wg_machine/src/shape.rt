@@ -53,7 +53,8 @@ pub struct Output {
 /// A node at one recursion level.
 ///
 /// `depth` is the number of units of the longest chain that ends here, `words` those of its records, `stride` a
-/// slot's bytes, `budgets` each budget's `MaxRecords`, `bools` the places of `bool` words.
+/// slot's bytes, `budgets` each budget's `MaxRecords`, `bools` the places of `bool` words. Where it is `shared`, the
+/// groups of a record share its words, and each may change them.
 #[derive(Debug, Drop)]
 pub struct Unit {
     pub node: u32,

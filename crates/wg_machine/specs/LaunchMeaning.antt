@@ -2,6 +2,7 @@
 use Rattle.std.specs.Prelude.{◌≡◌, ⊤, ℕ, Bool, true, false, ◌^◌, ◌≤◌, ◌<◌, ◌==◌, None, Option, Some, List, [], ◌∷◌, length, Contains, slice_get, slice_index, count_by}
 use Rattle.wg_machine.specs.declared.shape.Output.{Output}
 use Rattle.wg_words.specs.Each.{Each}
+use Rattle.wg_words.specs.declared.limits.TheConstants.{GRID_BOUND}
 use Rattle.wg_machine.specs.declared.shape.Shape.{Shape}
 use Rattle.wg_machine.specs.declared.shape.Unit.{Unit}
 use Rattle.wg_machine.specs.declared.shape.Kind.{Kind}
@@ -54,7 +55,7 @@ pub record FitsShape (shape : Shape) (launch : Launch) : Type 0 where
   pub few : length launch.records ≤ most_inputs (kind_at shape launch.unit)
   pub words : Each (λ (r : Record). length r.words ≡ words_at shape launch.unit) launch.records
   pub grid_some : 1 ≤ groups_in launch.grid
-  pub grid_few : groups_in launch.grid < 2 ^ 24
+  pub grid_few : groups_in launch.grid < GRID_BOUND
   pub group : launch.group < groups_in launch.grid
   pub grid : HasGridOf (kind_at shape launch.unit) launch.grid
 

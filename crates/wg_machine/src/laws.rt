@@ -10,6 +10,7 @@ ghost use Rattle.wg_machine.specs.Buffers.{Buffers, lengths_of};
 ghost use Rattle.wg_machine.specs.Bytes.{KeepsSlots, live_bytes, peak, plan_bytes};
 ghost use Rattle.wg_machine.specs.Choice.{SomeHasRoom};
 ghost use Rattle.wg_words.specs.Each.{Each};
+ghost use Rattle.wg_words.specs.declared.limits.TheConstants.{MOST_SENT, MOST_STRIDE, MOST_UNITS, MOST_UNIT_CHAIN};
 ghost use Rattle.wg_machine.specs.Fitting.{BagFits, StateFits, IsLawful, SendsOne, OnlyThreads};
 ghost use Rattle.wg_machine.specs.Grids.{groups_in, groups_of, has_group, place_of};
 ghost use Rattle.wg_machine.specs.GoodShape.{IsGoodShape};
@@ -82,18 +83,18 @@ pub fn groups_lie_in_grids()
 
 /// A good shape has at most 8,192 units: 256 nodes at 32 levels.
 pub fn few_units()
-    ensures { (shape : Graph) → IsGoodShape shape → length shape.units ≤ 8192 }
+    ensures { (shape : Graph) → IsGoodShape shape → length shape.units ≤ MOST_UNITS }
 {}
 
 /// A slot of a good shape has at most 8,192 bytes.
 pub fn strides_are_small()
-    ensures { (shape : Graph) (u : ℕ) → IsGoodShape shape → stride_at shape u ≤ 8192 }
+    ensures { (shape : Graph) (u : ℕ) → IsGoodShape shape → stride_at shape u ≤ MOST_STRIDE }
 {}
 
 /// A launch that keeps the laws sends at most 16,384 records: through 64 outputs, with budgets of at most 256.
 pub fn few_are_sent()
     ensures { (shape : Graph) (launch : Launched) (buffers : Buffers) (turns : ℕ) (o : Outcome)
-        → IsGoodShape shape → FitsShape shape launch → KeepsLaws shape launch buffers turns o → length o.sent ≤ 16384 }
+        → IsGoodShape shape → FitsShape shape launch → KeepsLaws shape launch buffers turns o → length o.sent ≤ MOST_SENT }
 {}
 
 /// An allowed launch is told by its unit, its group and its records' numbers: the bag has the rest.
@@ -157,5 +158,5 @@ pub fn chains_are_short()
         (entries : List Line) (trail : List Passed) (final : State)
         → IsGoodShape shape → IsLawful shape made → OnlyThreads shape → SendsOne shape made → Each (Arrives shape) script
         → IsRun shape made turns (start shape script buffers) entries trail final
-        → length entries ≤ 32 * length script }
+        → length entries ≤ MOST_UNIT_CHAIN * length script }
 {}

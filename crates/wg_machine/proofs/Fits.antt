@@ -1,6 +1,6 @@
 -- Launches that a fitting bag allows fit the shape, and steps of lawful bodies keep a state fitting.
 use Rattle.std.proofs.Common.{◌≡◌, ℕ, ◌+◌, ◌*◌, ◌^◌, ◌<◌, ◌≤◌, Bool, true, false, List, [], ◌∷◌, ◌++◌, length, map, refl, ap, sym, ◌∙◌, subst, arith, Option, None, Some, min, unwrap_or}
-use Rattle.std.specs.Prelude.{IfSome, if◌then◌else◌, nat_lt, slice_get, slice_index}
+use Rattle.std.specs.Prelude.{IsTrue, IfSome, if◌then◌else◌, nat_lt, slice_get, slice_index}
 use Rattle.std.specs.Option.{option_map}
 use Rattle.std.specs.List.{flat_map}
 use Rattle.wg_words.specs.Each.{Each}
@@ -16,7 +16,7 @@ use Rattle.wg_machine.specs.declared.launch.Sent.{Sent}
 use Rattle.wg_machine.specs.Buffers.{Buffers, lengths_of}
 use Rattle.wg_machine.specs.Fitting.{IsFitting, BagFits, StateFits, IsLawful}
 use Rattle.wg_machine.specs.GoodShape.{IsGoodShape, IsGoodKind}
-use Rattle.wg_machine.specs.Grids.{clipped, grid_of, groups_in, groups_of, place_of, without_group}
+use Rattle.wg_machine.specs.Grids.{clipped, grid_of, groups_in, groups_of, has_group, place_of, without_group}
 use Rattle.wg_machine.specs.LaunchMeaning.{Meaning, Outcome, Arrives, HasGridOf, HasNewWords, FitsShape, KeepsLaws}
 use Rattle.wg_machine.specs.Run.{IsRun, EachState, times}
 use Rattle.wg_machine.specs.State.{State, born, kept, live_of, start}
@@ -113,6 +113,15 @@ allowed_fits shape bag launch at good fits allowed =
           group = place;
           grid = subst (HasGridOf kind) (sym grid) (grid_kind kind fit.0.first_words);
         }
+
+-- a group of a live record lies in its grid
+pub live_lies : (shape : Shape) (r : Live) (at : List ℕ) → IsGoodShape shape → IsFitting shape r → IsTrue (has_group r.groups at) → (place_of r.grid at < groups_in r.grid) × (groups_in r.grid < 2 ^ 24)
+live_lies shape r at good fits h =
+    let once = has_times r.groups at h in
+    let most = fits.groups at in (
+      place_in_grid r.grid at (times_has (groups_of r.grid) at (omega (arith, once, most))),
+      subst (λ (g : List ℕ). groups_in g < 2 ^ 24) (sym fits.grid) (small_grid (words_at shape r.unit) (kind_at shape r.unit) fits.first_words (good_kind shape r.unit good)),
+    )
 
 -- a step keeps a state fitting
 

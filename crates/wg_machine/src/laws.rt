@@ -1,4 +1,4 @@
-ghost use Rattle.std.specs.Prelude.{◌≡◌, ◌≢◌, ◌≤◌, ◌<◌, ◌*◌, ◌==◌, [], length, IsTrue, List, ℕ, count_by};
+ghost use Rattle.std.specs.Prelude.{◌≡◌, ◌≢◌, ◌≤◌, ◌<◌, ◌*◌, ◌==◌, [], length, map, IsTrue, List, ℕ, count_by};
 ghost use Rattle.wg_machine.specs.declared.shape.Shape.{Shape as Graph};
 ghost use Rattle.wg_machine.specs.declared.shape.Unit.{Unit as Node};
 ghost use Rattle.wg_machine.specs.declared.launch.Entry.{Entry as Line};
@@ -10,17 +10,17 @@ ghost use Rattle.wg_machine.specs.Buffers.{Buffers, lengths_of};
 ghost use Rattle.wg_machine.specs.Bytes.{KeepsSlots, live_bytes, peak, plan_bytes};
 ghost use Rattle.wg_machine.specs.Choice.{SomeHasRoom};
 ghost use Rattle.wg_words.specs.Each.{Each};
-ghost use Rattle.wg_words.specs.declared.limits.TheConstants.{MOST_SENT, MOST_STRIDE, MOST_UNITS, MOST_UNIT_CHAIN};
-ghost use Rattle.wg_machine.specs.Fitting.{BagFits, StateFits, IsLawful, SendsOne, OnlyThreads};
+ghost use Rattle.wg_words.specs.declared.limits.TheConstants.{GRID_BOUND, MOST_SENT, MOST_STRIDE, MOST_UNITS, MOST_UNIT_CHAIN};
+ghost use Rattle.wg_machine.specs.Fitting.{IsFitting, BagFits, StateFits, IsLawful, SendsOne, OnlyThreads};
 ghost use Rattle.wg_machine.specs.Grids.{groups_in, groups_of, has_group, place_of};
 ghost use Rattle.wg_machine.specs.GoodShape.{IsGoodShape};
 ghost use Rattle.wg_machine.specs.LaunchMeaning.{Meaning, Outcome, Arrives, FitsShape, KeepsBudgets, KeepsLaws};
 ghost use Rattle.wg_machine.specs.Need.{need_of};
 ghost use Rattle.wg_machine.specs.Run.{IsRun, IsComplete, EachOnce, EachState, NamesGroup, all_born, groups_at, times, uses};
 ghost use Rattle.wg_machine.specs.State.{State, start};
-ghost use Rattle.wg_machine.specs.Step.{Passed, Step, Allows, launch_in, numbers_of};
+ghost use Rattle.wg_machine.specs.Step.{Passed, Step, Allows, IsReady, launch_in, numbers_of, record_of, taken};
 ghost use Rattle.wg_machine.specs.Totals.{EndsWithTotals};
-ghost use Rattle.wg_machine.specs.Units.{depth_at, stride_at};
+ghost use Rattle.wg_machine.specs.Units.{depth_at, kind_at, most_inputs, stride_at};
 
 /// A complete run takes each group of each record once.
 pub fn each_once()
@@ -81,6 +81,13 @@ pub fn groups_lie_in_grids()
     ensures { (grid at : List ℕ) → IsTrue (has_group (groups_of grid) at) → place_of grid at < groups_in grid }
 {}
 
+/// A group of a fitting record lies in the record's grid, which has fewer than 2^24 groups.
+pub fn live_groups_lie_in_grids()
+    ensures { (shape : Graph) (r : Waiting) (at : List ℕ)
+        → IsGoodShape shape → IsFitting shape r → IsTrue (has_group r.groups at)
+        → (place_of r.grid at < groups_in r.grid) × (groups_in r.grid < GRID_BOUND) }
+{}
+
 /// A good shape has at most 8,192 units: 256 nodes at 32 levels.
 pub fn few_units()
     ensures { (shape : Graph) → IsGoodShape shape → length shape.units ≤ MOST_UNITS }
@@ -101,6 +108,15 @@ pub fn few_are_sent()
 pub fn allowed_is_launch_in()
     ensures { (shape : Graph) (bag : List Waiting) (launch : Launched) (at : List ℕ)
         → Allows shape bag launch at → launch ≡ launch_in shape bag launch.unit at (numbers_of launch.records) }
+{}
+
+/// Records of a fitting bag that have the unit and the group, as many as the unit lets a launch take and named in rising
+/// order, are such a launch.
+pub fn launch_in_is_allowed()
+    ensures { (shape : Graph) (bag : List Waiting) (unit : ℕ) (at numbers : List ℕ)
+        → BagFits shape bag → numbers_of (map record_of (taken numbers bag)) ≡ numbers
+        → 1 ≤ length numbers → length numbers ≤ most_inputs (kind_at shape unit) → Each (IsReady unit at) (taken numbers bag)
+        → Allows shape bag (launch_in shape bag unit at numbers) at }
 {}
 
 /// A launch that a bag of fitting records allows fits the shape.

@@ -1,20 +1,20 @@
 -- The adders only add, and the doublers do not.
-use Rattle.std.proofs.Common.{◌≡◌, ℕ, zero, suc, ◌+◌, ◌%◌, ◌^◌, ◌<◌, List, [], ◌∷◌, length, map, refl, ap, sym, ◌∙◌, arith}
+use Rattle.std.proofs.Common.{◌≡◌, false, ℕ, zero, suc, ◌+◌, ◌%◌, ◌^◌, ◌<◌, List, [], ◌∷◌, length, map, refl, ap, sym, ◌∙◌, arith}
 use Rattle.std.specs.Prelude.{slice_index, replicate}
 use Rattle.wg_machine.specs.declared.shape.Shape.{Shape}
 use Rattle.wg_machine.specs.declared.launch.Launch.{Launch}
 use Rattle.wg_machine.specs.declared.launch.Record.{Record}
 use Rattle.wg_machine.specs.declared.memory.Write.TheVariants.{Add}
-use Rattle.wg_machine.specs.Additive.{AreWords, IsAdditive, unnumbered, zeros}
+use Rattle.wg_machine.specs.Additive.{AreWords, IsAdditive, unnumbered_record, zero_buffers}
 use Rattle.wg_machine.specs.Buffers.{Buffers, buffer_at, word_at, written, lengths_of}
 use Rattle.wg_machine.specs.Fitting.{IsLawful}
 use Rattle.wg_machine.specs.GoodShape.{IsGoodShape}
 use Rattle.wg_machine.specs.LaunchMeaning.{FitsShape}
-use Rattle.wg_machine.specs.Units.{kind_at, most_inputs}
-use Rattle.wg_adders.specs.Adding.{first_word, sent_by, target_of, adder_made, adder_lawful, lengths_stay}
+use Rattle.wg_machine.specs.Units.{kind_at, is_coalescing, shared_at}
+use Rattle.wg_adders.specs.Adding.{first_word, adder_sends, adder_target, adder_made, adder_lawful, lengths_stay}
 use Rattle.wg_adders.specs.Doubling.{doubler_made}
 
-same_first : (rs : List Record) → first_word (map unnumbered rs) ≡ first_word rs
+same_first : (rs : List Record) → first_word (map unnumbered_record rs) ≡ first_word rs
 same_first [] = refl
 same_first (r ∷ rs) = refl
 
@@ -30,12 +30,12 @@ zero_word zero w = refl
 zero_word (suc n) zero = refl
 zero_word (suc n) (suc w) = zero_word n w
 
-zeros_word : (m : Buffers) (b w : ℕ) → word_at (zeros (lengths_of m)) b w ≡ 0
+zeros_word : (m : Buffers) (b w : ℕ) → word_at (zero_buffers (lengths_of m)) b w ≡ 0
 zeros_word [] b w = refl
 zeros_word (x ∷ m) zero w = zero_word (length x) w
 zeros_word (x ∷ m) (suc b) w = zeros_word m b w
 
-added_at : (m : Buffers) (v b w : ℕ) → AreWords m → w < length (buffer_at m b) → word_at (written m (Add 0 0 v)) b w ≡ (word_at m b w + word_at (written (zeros (lengths_of m)) (Add 0 0 v)) b w) % 2 ^ 32
+added_at : (m : Buffers) (v b w : ℕ) → AreWords m → w < length (buffer_at m b) → word_at (written m (Add 0 0 v)) b w ≡ (word_at m b w + word_at (written (zero_buffers (lengths_of m)) (Add 0 0 v)) b w) % 2 ^ 32
 added_at [] v b w small h = absurd (omega (arith, h))
 added_at ([] ∷ m) v zero w small h = absurd (omega (arith, h))
 added_at ((x ∷ xs) ∷ m) v zero zero small h = sum_first x v
@@ -44,16 +44,17 @@ added_at ((x ∷ xs) ∷ m) v zero (suc w) small h =
 added_at (x ∷ m) v (suc b) w small h =
     sum_other (word_at m b w) (small (suc b) w) ∙ ap (λ (k : ℕ). (word_at m b w + k) % 2 ^ 32) (sym (zeros_word m b w))
 
-pub adders_additive : (shape : Shape) → ((u : ℕ) → most_inputs (kind_at shape u) ≡ 1) → IsAdditive shape (adder_made shape)
-adders_additive shape single = record {
-  single = single;
-  adds = λ l m turns fits small. record {
-    sent = ap (sent_by shape (target_of shape l.unit)) (sym (same_first l.records));
+pub adders_additive : (shape : Shape) → ((u : ℕ) → is_coalescing (kind_at shape u) ≡ false) → ((u : ℕ) → shared_at shape u ≡ false) → IsAdditive shape (adder_made shape)
+adders_additive shape single alone = record {
+  none_coalesces = single;
+  none_shared = alone;
+  adds = λ l m turns fits not_last small. record {
+    sent = ap (adder_sends shape (adder_target shape l.unit)) (sym (same_first l.records));
     denied = refl;
     turns = refl;
     buffers = record {
       lengths = lengths_stay m _;
-      words = λ b w h. added_at m (first_word l.records) b w small h ∙ ap (λ (v : ℕ). (word_at m b w + word_at (written (zeros (lengths_of m)) (Add 0 0 v)) b w) % 2 ^ 32) (sym (same_first l.records));
+      words = λ b w h. added_at m (first_word l.records) b w small h ∙ ap (λ (v : ℕ). (word_at m b w + word_at (written (zero_buffers (lengths_of m)) (Add 0 0 v)) b w) % 2 ^ 32) (sym (same_first l.records));
     };
   };
 }
@@ -71,8 +72,10 @@ small_one zero (suc w) = omega arith
 small_one (suc b) w = omega arith
 
 -- on one word of 1 a doubler leaves 2, and on a word of 0 it leaves 0
-pub doublers_not : (shape : Shape) (launch : Launch) → FitsShape shape launch → IsAdditive shape doubler_made → ⊥
+pub doublers_not : (shape : Shape) (launch : Launch) → FitsShape shape launch → IsAdditive shape (doubler_made shape) → ⊥
 unfolding one_buffer
 doublers_not shape launch fits additive =
-    let a = (additive.adds launch one_buffer 0 fits small_one).buffers.words 0 0 (omega arith) in
+    let other : Launch = record launch { last = false } in
+    let fits_too : FitsShape shape other = record { unit = fits.unit; some = fits.some; few = fits.few; words = fits.words; grid_some = fits.grid_some; grid_few = fits.grid_few; group = fits.group; grid = fits.grid } in
+    let a = (additive.adds other one_buffer 0 fits_too refl small_one).buffers.words 0 0 (omega arith) in
     absurd (omega (arith, a))

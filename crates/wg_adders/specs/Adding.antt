@@ -1,5 +1,5 @@
 -- What the adders do, and that they keep to the laws of a launch.
-use Rattle.std.specs.Prelude.{◌≡◌, ℕ, ◌≤◌, ◌<◌, ◌==◌, ◌+◌, Bool, true, false, List, [], ◌∷◌, length, slice_index, slice_get, slice_set, Option, Some, None, replicate, count_by, unwrap_or}
+use Rattle.std.specs.Prelude.{◌≡◌, if◌then◌else◌, ℕ, ◌≤◌, ◌<◌, ◌==◌, ◌+◌, Bool, true, false, List, [], ◌∷◌, length, slice_index, slice_get, slice_set, Option, Some, None, replicate, count_by, unwrap_or}
 use Rattle.std.specs.Option.{option_and_then}
 use Rattle.std.proofs.Common.{arith, refl, ap, zero, suc, subst, sym, ◌∙◌, cond, Contains}
 use Rattle.std.proofs.lemmas.List.Sums.{sum_by-cons}
@@ -15,12 +15,20 @@ use Rattle.wg_machine.specs.declared.launch.Sent.{Sent}
 use Rattle.wg_machine.specs.declared.memory.Write.TheVariants.{Add}
 use Rattle.wg_machine.specs.Buffers.{Buffers, lengths_of, buffer_at, written}
 use Rattle.wg_machine.specs.GoodShape.{IsGoodShape, IsGoodOutput, IsGoodElement, IsBetween}
-use Rattle.wg_machine.specs.LaunchMeaning.{Meaning, Outcome, Arrives, FitsShape, KeepsBudgets, KeepsLaws}
-use Rattle.wg_machine.specs.Units.{words_at}
+use Rattle.wg_machine.specs.LaunchMeaning.{Meaning, Outcome, Arrives, FitsShape, HasNewWords, KeepsBudgets, KeepsLaws}
+use Rattle.wg_machine.specs.Units.{words_at, shared_at}
 
 abbrev pub first_word : List Record → ℕ
 first_word [] = 0
 first_word (r ∷ rs) = slice_index r.words 0
+
+abbrev pub first_words : List Record → List ℕ
+first_words [] = []
+first_words (r ∷ rs) = r.words
+
+-- a record whose words its groups share keeps them
+abbrev pub same_words : Shape → Launch → Option (List ℕ)
+same_words shape l = if shared_at shape l.unit then Some (first_words l.records) else None
 
 abbrev pub first_element : Output → Option ℕ
 first_element o = unwrap_or (slice_get o.elements 0) None
@@ -29,17 +37,17 @@ first_element o = unwrap_or (slice_get o.elements 0) None
 abbrev pub target_within : Unit → Option ℕ
 target_within u = option_and_then first_element (slice_get u.outputs 0)
 
-abbrev pub target_of : Shape → ℕ → Option ℕ
-target_of shape unit = option_and_then target_within (slice_get shape.units unit)
+abbrev pub adder_target : Shape → ℕ → Option ℕ
+adder_target shape unit = option_and_then target_within (slice_get shape.units unit)
 
 -- a record of the target's words, each of them the word
-abbrev pub sent_by : Shape → Option ℕ → ℕ → List Sent
-sent_by shape None word = []
-sent_by shape (Some t) word = record { unit = t; words = replicate (words_at shape t) word } ∷ []
+abbrev pub adder_sends : Shape → Option ℕ → ℕ → List Sent
+adder_sends shape None word = []
+adder_sends shape (Some t) word = record { unit = t; words = replicate (words_at shape t) word } ∷ []
 
 abbrev pub adder_outcome : Shape → Launch → Buffers → Outcome
 adder_outcome shape l m =
-    record { sent = sent_by shape (target_of shape l.unit) (first_word l.records); denied = 0; turns = 0; buffers = written m (Add 0 0 (first_word l.records)) }
+    record { sent = adder_sends shape (adder_target shape l.unit) (first_word l.records); denied = 0; turns = 0; buffers = written m (Add 0 0 (first_word l.records)); shared = same_words shape l }
 
 abbrev pub adder_made : Shape → Meaning
 adder_made shape l m turns = Some (adder_outcome shape l m)
@@ -81,8 +89,8 @@ first_in {X = X} xs x rest e = subst (λ (ys : List X). Contains ys x) (sym e) (
 
 -- what the adders send keeps the budgets of a unit of a good shape, and arrives
 record Fine (shape : Shape) (u : Unit) (t : Option ℕ) (word : ℕ) : Type 0 where
-  pub arrive : Each (Arrives shape) (sent_by shape t word)
-  pub budgets : KeepsBudgets u (sent_by shape t word)
+  pub arrive : Each (Arrives shape) (adder_sends shape t word)
+  pub budgets : KeepsBudgets u (adder_sends shape t word)
 
 none_fine : (shape : Shape) (u : Unit) (word : ℕ) → Fine shape u None word
 none_fine shape u word = record { arrive = tt; budgets = record { through = []; each_goes = tt; few = λ b. (omega arith) } }
@@ -117,19 +125,32 @@ unit_there [] u h = absurd (omega arith)
 unit_there (n ∷ units) zero h = (n, refl)
 unit_there (n ∷ units) (suc u) h = unit_there units u (omega arith)
 
+-- the words that a record keeps are as many as its unit's
+pub same_words_new : (shape : Shape) (l : Launch) → FitsShape shape l → HasNewWords (shared_at shape l.unit) (words_at shape l.unit) (same_words shape l)
+same_words_new shape l fits = choice (shared_at shape l.unit)
+  where
+    first : (rs : List Record) → 1 ≤ length rs → Each (λ (r : Record). length r.words ≡ words_at shape l.unit) rs → length (first_words rs) ≡ words_at shape l.unit
+    first [] some each = absurd (omega arith)
+    first (r ∷ rs) some each = each.0
+
+    choice : (b : Bool) → HasNewWords b (words_at shape l.unit) (if b then Some (first_words l.records) else None)
+    choice true = first l.records fits.some fits.words
+    choice false = tt
+
 pub adder_lawful : (shape : Shape) (l : Launch) (m : Buffers) (turns : ℕ) → IsGoodShape shape → FitsShape shape l → KeepsLaws shape l m turns (adder_outcome shape l m)
 adder_lawful shape l m turns good fits =
     let there = unit_there shape.units l.unit fits.unit in
     let u = there.0 in
     let word = first_word l.records in
     let g = good.units l.unit u there.1 in
-    let fine : Fine shape u (target_of shape l.unit) word = subst (λ (n : Option Unit). Fine shape u (option_and_then target_within n) word) (sym there.1) (output_fine shape u word g.budgets u.outputs refl g.outputs) in
+    let fine : Fine shape u (adder_target shape l.unit) word = subst (λ (n : Option Unit). Fine shape u (option_and_then target_within n) word) (sym there.1) (output_fine shape u word g.budgets u.outputs refl g.outputs) in
     record {
       turns_few = omega arith;
       denied_few = omega arith;
       lengths = lengths_stay m _;
       arrive = fine.arrive;
-      budgets = λ v e. subst (λ (w : Unit). KeepsBudgets w (sent_by shape (target_of shape l.unit) word)) (same_some u v (sym there.1 ∙ e)) fine.budgets;
+      budgets = λ v e. subst (λ (w : Unit). KeepsBudgets w (adder_sends shape (adder_target shape l.unit) word)) (same_some u v (sym there.1 ∙ e)) fine.budgets;
+      shared = same_words_new shape l fits;
     }
   where
     same_some : (a b : Unit) → Some a ≡ Some b → a ≡ b

@@ -1,10 +1,10 @@
 ghost use Rattle.std.specs.Prelude.{◌≡◌, ◌<◌, IfOk, OnOk, OnSome, IfSome, length, true, unwrap_or, slice_get, None};
-ghost use Rattle.wg_machine.specs.Units.{words_at};
-ghost use Rattle.wg_adders.specs.Adding.{first_word, target_of, sent_by};
+ghost use Rattle.wg_machine.specs.Units.{shared_at, words_at};
+ghost use Rattle.wg_adders.specs.Adding.{first_word, first_words, same_words, adder_target, adder_sends};
 
 use std::alloc::{AllocError, Global};
 use wg_machine::{Bodies, Halt, Launch, Made, Memory, Record, Sent, SentList, Shape};
-use wg_words::{Word, Words};
+use wg_words::{TryCopy, Word, Words};
 
 /// Bodies that only add: a launch adds its first record's first word to the first word of the first buffer, and sends
 /// one record of that word to the first element of its unit's first output, if there is one.
@@ -24,7 +24,7 @@ fn first_of(records: &[Record]) -> Word
 }
 
 fn target_in(shape: &Shape, unit: u32) -> Option<u32>
-    ensures { result ≡ target_of shape.now unit }
+    ensures { result ≡ adder_target shape.now unit }
 {
     let unit = shape.units.get(unit as usize)?;
     let output = unit.outputs.get(0)?;
@@ -47,7 +47,7 @@ fn sent_to(
     target: Option<u32>,
     word: Word,
 ) -> Result<SentList, AllocError>
-    ensures { IfOk result (λ sent. sent ≡ sent_by shape.now target word) }
+    ensures { IfOk result (λ sent. sent ≡ adder_sends shape.now target word) }
 {
     let mut sent = SentList::new(alloc);
     if let Some(unit) = target {
@@ -59,6 +59,39 @@ fn sent_to(
         })?;
     }
     Ok(sent)
+}
+
+fn is_shared(shape: &Shape, unit: u32) -> bool
+    ensures { result ≡ shared_at shape.now unit }
+{
+    match shape.units.get(unit as usize) {
+        Some(unit) => unit.shared,
+        None => false,
+    }
+}
+
+fn words_of_first(alloc: Global, records: &[Record]) -> Result<Words, AllocError>
+    ensures { IfOk result (λ words. words ≡ first_words records.now) }
+{
+    match records.first() {
+        Some(record) => record.words.copy(alloc),
+        None => Ok(Words::new(alloc)),
+    }
+}
+
+/// The words of a record whose groups share them, as they were.
+pub fn words_kept(
+    alloc: Global,
+    shape: &Shape,
+    launch: &Launch,
+) -> Result<Option<Words>, AllocError>
+    ensures { IfOk result (λ words. words ≡ same_words shape.now launch.now) }
+{
+    if !is_shared(shape, launch.unit) {
+        return Ok(None);
+    }
+    let words = words_of_first(alloc, launch.records.as_slice())?;
+    Ok(Some(words))
 }
 
 impl Bodies for Adders {
@@ -83,6 +116,9 @@ impl Bodies for Adders {
         let Ok(sent) = sent_to(self.alloc, &self.shape, target, word) else {
             return Err(Halt::Memory);
         };
+        let Ok(shared) = words_kept(self.alloc, &self.shape, launch) else {
+            return Err(Halt::Memory);
+        };
         let Ok(()) = mem.add(0, 0, word) else {
             return Err(Halt::Memory);
         };
@@ -90,7 +126,7 @@ impl Bodies for Adders {
             sent,
             denied: 0,
             turns: 0,
-            shared: None,
+            shared,
         })
     }
 }

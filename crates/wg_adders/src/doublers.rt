@@ -1,5 +1,6 @@
 ghost use Rattle.std.specs.Prelude.{◌≡◌, false};
 
+use crate::adders::words_kept;
 use std::alloc::Global;
 use wg_machine::{Bodies, Halt, Launch, Made, Memory, SentList, Shape};
 
@@ -15,19 +16,21 @@ impl Bodies for Doublers {
 
     ghost graph = { λ b. b.shape };
 
-    ghost made = { λ b. doubler_made };
+    ghost made = { λ b. doubler_made b.shape };
 
     ghost quiet = { λ b. false };
 
-    ghost lawful = { λ b l m t good fits. doubler_lawful b.shape l m t };
+    ghost lawful = { λ b l m t good fits. doubler_lawful b.shape l m t fits };
 
     fn shape(&self) -> &Shape {
         &self.shape
     }
 
     fn launch<M: Memory>(&self, launch: &Launch, mem: &mut M, turns: u64) -> Result<Made, Halt> {
-        let _ = launch.group;
         let _ = turns;
+        let Ok(shared) = words_kept(self.alloc, &self.shape, launch) else {
+            return Err(Halt::Memory);
+        };
         let Ok(word) = mem.load(0, 0) else {
             return Err(Halt::Memory);
         };
@@ -38,7 +41,7 @@ impl Bodies for Doublers {
             sent: SentList::new(self.alloc),
             denied: 0,
             turns: 0,
-            shared: None,
+            shared,
         })
     }
 }

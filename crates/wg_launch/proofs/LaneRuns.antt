@@ -2,7 +2,7 @@
 use Rattle.std.proofs.Common.{◌≡◌, ℕ, suc, ◌+◌, List, [], ◌∷◌, ◌++◌, length, take, drop, get_or, ◌-◌, ◌≤◌, ◌<◌, true, false, Err, append-nil, refl, sym, ap, ◌∙◌, arith}
 use Rattle.std.proofs.Math.Seq.{take-suc}
 use Rattle.std.proofs.lemmas.List.{get_or-drop, length-drop, append_assoc, drop_more}
-use Rattle.wg_state.specs.Turns.{Outcome, Spent, Done, Step, and_then, pure}
+use Rattle.wg_state.specs.Turns.{Ending, Spent, Done, Action, and_then, pure}
 use Rattle.wg_semantics.specs.declared.state.Frame.{Frame}
 use Rattle.wg_semantics.specs.declared.state.Lane.{Lane}
 use Rattle.wg_state.specs.declared.world.Sender.{Sender}
@@ -17,11 +17,11 @@ use Rattle.wg_launch.specs.Launches.{Launches}
 -- ---- lanes
 
 -- lanes that were run, before those of an outcome
-abbrev pub put_before : List Lane → Outcome World (List Lane) → Outcome World (List Lane)
+abbrev pub put_before : List Lane → Ending World (List Lane) → Ending World (List Lane)
 put_before done Spent = Spent
 put_before done (Done others w t) = Done (done ++ others) w t
 
-put_one : (done : List Lane) (y : Lane) (o : Outcome World (List Lane)) → put_before done (and_then o (λ others. pure (y ∷ others))) ≡ put_before (done ++ y ∷ []) o
+put_one : (done : List Lane) (y : Lane) (o : Ending World (List Lane)) → put_before done (and_then o (λ others. pure (y ∷ others))) ≡ put_before (done ++ y ∷ []) o
 put_one done y Spent = refl
 put_one done y (Done others w t) = ap (λ l. Done l w t) (sym (append_assoc done (y ∷ []) others))
 
@@ -29,14 +29,14 @@ pub lanes_next : (bodies : Bodies) (n m : ℕ) (x y : Lane) (items rest done : L
 lanes_next bodies n m x y items rest done w w2 t t2 e k one =
     let next : suc n ≡ m = omega (arith, k) in
     ap (λ l. put_before done (lanes_run bodies n l w t)) e
-    ∙ ap (λ (o : Outcome World Lane). put_before done (and_then o (λ first. λ w t. and_then (lanes_run bodies (suc n) rest w t) (λ others. pure (first ∷ others))))) one
+    ∙ ap (λ (o : Ending World Lane). put_before done (and_then o (λ first. λ w t. and_then (lanes_run bodies (suc n) rest w t) (λ others. pure (first ∷ others))))) one
     ∙ put_one done y (lanes_run bodies (suc n) rest w2 t2)
     ∙ ap (λ i. put_before (done ++ y ∷ []) (lanes_run bodies i rest w2 t2)) next
 
 lanes_spent : (bodies : Bodies) (n : ℕ) (x : Lane) (items rest done : List Lane) (w : World) (t : ℕ) → items ≡ x ∷ rest → lane_runs (bodies n) x w t ≡ Spent → put_before done (lanes_run bodies n items w t) ≡ Spent
 lanes_spent bodies n x items rest done w t e one =
     ap (λ l. put_before done (lanes_run bodies n l w t)) e
-    ∙ ap (λ (o : Outcome World Lane). put_before done (and_then o (λ first. λ w t. and_then (lanes_run bodies (suc n) rest w t) (λ others. pure (first ∷ others))))) one
+    ∙ ap (λ (o : Ending World Lane). put_before done (and_then o (λ first. λ w t. and_then (lanes_run bodies (suc n) rest w t) (λ others. pure (first ∷ others))))) one
 
 pub lanes_stop : (bodies : Bodies) (n : ℕ) (x : Lane) (items rest done : List Lane) (w : World) (t : ℕ) (h : Halt) → items ≡ x ∷ rest → Stops (lane_runs (bodies n) x w t) h → Stops (put_before done (lanes_run bodies n items w t)) h
 lanes_stop bodies n x items rest done w t halt.Turns e one = lanes_spent bodies n x items rest done w t e one
@@ -47,7 +47,7 @@ lanes_end bodies n items done w t e = ap (λ l. put_before done (lanes_run bodie
 
 -- ---- phases
 
-run_alone : (bodies : List TypedStmt → Bodies) (more : List Phase) (o : Outcome World (List Lane)) → and_then o (phases_run bodies more) ≡ and_then (and_then o (phases_run bodies [])) (phases_run bodies more)
+run_alone : (bodies : List TypedStmt → Bodies) (more : List Phase) (o : Ending World (List Lane)) → and_then o (phases_run bodies more) ≡ and_then (and_then o (phases_run bodies [])) (phases_run bodies more)
 run_alone bodies more Spent = refl
 run_alone bodies more (Done lanes w t) = refl
 
@@ -56,13 +56,13 @@ run_first bodies [] more lanes w t = refl
 run_first bodies (s ∷ run) more lanes w t = run_alone bodies more (lanes_run (bodies (s ∷ run)) 0 lanes w t)
 
 -- the statements before a collective one, and then that one
-abbrev two_run : (List TypedStmt → Bodies) → List TypedStmt → TypedStmt → List Lane → Step World (List Lane)
+abbrev two_run : (List TypedStmt → Bodies) → List TypedStmt → TypedStmt → List Lane → Action World (List Lane)
 two_run bodies run x lanes w t = and_then (phases_run bodies (after_run run []) lanes w t) (phases_run bodies (after_run (x ∷ []) []))
 
 phases_next : (bodies : List TypedStmt → Bodies) (run : List TypedStmt) (x : TypedStmt) (rest : List TypedStmt) (lanes : List Lane) (w : World) (t : ℕ) → is_collective x ≡ true → phases_run bodies (phases_after run (x ∷ rest)) lanes w t ≡ and_then (two_run bodies run x lanes w t) (phases_run bodies (phases_after [] rest))
 phases_next bodies run x rest lanes w t c = rw (c, run_first bodies run (Run (x ∷ []) ∷ phases_after [] rest) lanes w t) (after (phases_run bodies (after_run run []) lanes w t))
   where
-    after : (o : Outcome World (List Lane)) → and_then o (phases_run bodies (Run (x ∷ []) ∷ phases_after [] rest)) ≡ and_then (and_then o (phases_run bodies (after_run (x ∷ []) []))) (phases_run bodies (phases_after [] rest))
+    after : (o : Ending World (List Lane)) → and_then o (phases_run bodies (Run (x ∷ []) ∷ phases_after [] rest)) ≡ and_then (and_then o (phases_run bodies (after_run (x ∷ []) []))) (phases_run bodies (phases_after [] rest))
     after Spent = refl
     after (Done l1 w1 t1) = run_first bodies (x ∷ []) (phases_after [] rest) l1 w1 t1
 
@@ -99,7 +99,7 @@ phases_plain body from at x le lt is c =
     ∙ sym (ap (phases_after (between body from at)) (cut_at body at x lt is))
 
 -- the run of statements up to a collective one, and then that one
-abbrev pub both_run : (List TypedStmt → Bodies) → List TypedStmt → ℕ → ℕ → List Lane → Step World (List Lane)
+abbrev pub both_run : (List TypedStmt → Bodies) → List TypedStmt → ℕ → ℕ → List Lane → Action World (List Lane)
 both_run bodies body from at lanes w t = and_then (phases_run bodies (after_run (between body from at) []) lanes w t) (phases_run bodies (after_run (between body at (at + 1)) []))
 
 pub phases_both : (bodies : List TypedStmt → Bodies) (body : List TypedStmt) (from at : ℕ) (x : TypedStmt) (lanes : List Lane) (w : World) (t : ℕ) → at < length body → x ≡ get_or body at x → is_collective x ≡ true → phases_run bodies (phases_after (between body from at) (drop at body)) lanes w t ≡ and_then (both_run bodies body from at lanes w t) (phases_run bodies (phases_after [] (drop (at + 1) body)))
@@ -113,18 +113,18 @@ phases_both bodies body from at x lanes w t lt is c =
 pub phases_on : (bodies : List TypedStmt → Bodies) (body : List TypedStmt) (from at : ℕ) (x : TypedStmt) (lanes l2 : List Lane) (w w2 : World) (t t2 : ℕ) → at < length body → x ≡ get_or body at x → is_collective x ≡ true → both_run bodies body from at lanes w t ≡ Done l2 w2 t2 → phases_run bodies (phases_after (between body from at) (drop at body)) lanes w t ≡ phases_run bodies (phases_after (between body (at + 1) (at + 1)) (drop (at + 1) body)) l2 w2 t2
 phases_on bodies body from at x lanes l2 w w2 t t2 lt is c h =
     phases_both bodies body from at x lanes w t lt is c
-    ∙ ap (λ (o : Outcome World (List Lane)). and_then o (phases_run bodies (phases_after [] (drop (at + 1) body)))) h
+    ∙ ap (λ (o : Ending World (List Lane)). and_then o (phases_run bodies (phases_after [] (drop (at + 1) body)))) h
     ∙ ap (λ run. phases_run bodies (phases_after run (drop (at + 1) body)) l2 w2 t2) (sym (none_at body (at + 1)))
 
 pub phases_stop : (bodies : List TypedStmt → Bodies) (body : List TypedStmt) (from at : ℕ) (x : TypedStmt) (lanes : List Lane) (w : World) (t : ℕ) (h : Halt) → at < length body → x ≡ get_or body at x → is_collective x ≡ true → Stops (both_run bodies body from at lanes w t) h → Stops (phases_run bodies (phases_after (between body from at) (drop at body)) lanes w t) h
 phases_stop bodies body from at x lanes w t halt.Turns lt is c stops =
     phases_both bodies body from at x lanes w t lt is c
-    ∙ ap (λ (o : Outcome World (List Lane)). and_then o (phases_run bodies (phases_after [] (drop (at + 1) body)))) stops
+    ∙ ap (λ (o : Ending World (List Lane)). and_then o (phases_run bodies (phases_after [] (drop (at + 1) body)))) stops
 phases_stop bodies body from at x lanes w t halt.Memory lt is c stops = tt
 
 -- ---- launches
 
-pub launch_stops : (outputs : List Sender) (turns : ℕ) (o : Outcome World (List Lane)) (h : Halt) → Stops o h → Launches (launched outputs turns o) (Err h)
+pub launch_stops : (outputs : List Sender) (turns : ℕ) (o : Ending World (List Lane)) (h : Halt) → Stops o h → Launches (launched outputs turns o) (Err h)
 launch_stops outputs turns o halt.Turns stops = ap (launched outputs turns) stops
 launch_stops outputs turns o halt.Memory stops = tt
 

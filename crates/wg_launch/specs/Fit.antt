@@ -15,7 +15,8 @@ use Rattle.wg_semantics.specs.declared.state.Group.{Group}
 use Rattle.wg_semantics.specs.declared.state.SentRecord.{SentRecord}
 use Rattle.wg_semantics.specs.declared.state.Launched.{Launched}
 use Rattle.wg_typed.specs.declared.typed.Typed.{Typed}
-use Rattle.wg_semantics.specs.LaunchMeaning.{place_of, made}
+use Rattle.wg_semantics.specs.LaunchMeaning.{made}
+use Rattle.wg_state.specs.Lanes.{place_of}
 use Rattle.wg_meaning.specs.declared.halt.Halt.{Halt}
 use Rattle.wg_meaning.specs.declared.halt.Halt.TheVariants as halt
 use Rattle.wg_launch.specs.declared.bodies.Body.{Body}

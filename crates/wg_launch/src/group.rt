@@ -1,5 +1,6 @@
 ghost use Rattle.std.specs.Prelude.{◌≡◌, IfOk, IfSome, [], Some};
-ghost use Rattle.wg_semantics.specs.LaunchMeaning.{first_frame, first_lanes, first_world, lanes_in, launch_of, made};
+ghost use Rattle.wg_semantics.specs.LaunchMeaning.{first_frame, first_lanes, first_world, launch_of, made};
+ghost use Rattle.wg_state.specs.Lanes.{lanes_in};
 ghost use Rattle.std.specs.Prelude.{List};
 ghost use Rattle.wg_state.specs.Turns.{Done};
 ghost use Rattle.wg_semantics.specs.declared.state.Group.{Group as Given};

@@ -1,5 +1,5 @@
 ghost use Rattle.std.specs.Prelude.{◌≡◌, ◌++◌, IfOk, OnOk};
-ghost use Rattle.wg_semantics.specs.LaunchMeaning.{is_of, sent_by, sent_to, sent_at, sent_from, sent_through};
+ghost use Rattle.wg_state.specs.Sending.{is_of, sent_by, sent_to, sent_at, sent_from, sent_through};
 
 use std::alloc::{AllocError, Global};
 use wg_semantics::SentRecord;

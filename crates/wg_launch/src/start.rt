@@ -1,5 +1,6 @@
 ghost use Rattle.std.specs.Prelude.{◌≡◌, ◌*◌, ◌/◌, ◌%◌, IfOk, map, take};
-ghost use Rattle.wg_semantics.specs.LaunchMeaning.{place_of, dispatch_of, system_named, system_words, entry_value, first_frame, first_shared};
+ghost use Rattle.wg_semantics.specs.LaunchMeaning.{system_named, system_words, entry_value, first_frame, first_shared};
+ghost use Rattle.wg_state.specs.Lanes.{place_of, dispatch_of};
 
 use std::alloc::{AllocError, Global};
 use wg_semantics::Frame;

@@ -2,6 +2,7 @@ ghost use Rattle.std.specs.Prelude.{◌≡◌, ℕ, Bool, IsTrue, IfOk, OnOk, Is
 ghost use Rattle.wg_machine.specs.declared.shape.Shape.{Shape as Graph};
 ghost use Rattle.wg_machine.specs.declared.launch.Launch.{Launch as Launched};
 ghost use Rattle.wg_machine.specs.declared.bodies.Halt.TheVariants.{Turns};
+ghost use Rattle.wg_machine.specs.declared.bodies.Halt.TheVariants as halt;
 ghost use Rattle.wg_machine.specs.Buffers.{Buffers};
 ghost use Rattle.wg_machine.specs.Effects.{Grows};
 ghost use Rattle.wg_machine.specs.GoodShape.{IsGoodShape};
@@ -9,12 +10,21 @@ ghost use Rattle.wg_machine.specs.LaunchMeaning.{Meaning, FitsShape, Makes, Spen
 ghost use Rattle.wg_machine.specs.Units.{shared_at, words_at};
 
 use crate::{Launch, Made, Memory, Shape};
+use std::alloc::AllocError;
 
 /// Why a launch did not end: it spent its turns, or there was no memory.
 #[derive(Clone, Copy, Debug, PartialEq, Eq)]
 pub enum Halt {
     Turns,
     Memory,
+}
+
+impl From<AllocError> for Halt {
+    ghost from_gives = { λ _ h. h ≡ halt.Memory };
+
+    fn from(_: AllocError) -> Halt {
+        Halt::Memory
+    }
 }
 
 /// The bodies of a graph's nodes, by what their launches do.

@@ -1,7 +1,7 @@
 -- What a statement with statements inside it does, by its parts.
 use Rattle.std.proofs.Common.{◌≡◌, ◌≢◌, ℕ, Bool, List, Option, if◌then◌else◌, sym, ap, ◌∙◌}
 use Rattle.std.specs.Prelude.{option_map, Some, None}
-use Rattle.wg_state.specs.Turns.{Done, Step, and_then, ◌>>=◌, ◌>>◌, pure}
+use Rattle.wg_state.specs.Turns.{Done, Action, and_then, ◌>>=◌, ◌>>◌, pure}
 use Rattle.wg_semantics.specs.declared.state.Flow.{Flow}
 use Rattle.wg_semantics.specs.declared.state.State.{State}
 use Rattle.wg_typed.specs.declared.typed_expr.TypedExpr.{TypedExpr}
@@ -24,32 +24,32 @@ use Rattle.wg_meaning.proofs.Loops.{is_true_at}
 use Rattle.wg_meaning.proofs.Sequences.{stops_next, stops_same}
 
 module _ (setting : Setting) (callees : List Callee) where
-  abbrev run : TypedStmt → Step State Flow
+  abbrev run : TypedStmt → Action State Flow
   run = does setting callees
 
-  abbrev tested : TypedExpr → Step State ℕ
+  abbrev tested : TypedExpr → Action State ℕ
   tested e = word_of setting (seen setting callees e)
 
-  abbrev other : Option TypedStmt → Step State Flow
+  abbrev other : Option TypedStmt → Action State Flow
   other o = maybe_else (option_map run o)
 
   does_if : (a : List TypedAttribute) (c : Bool) (e : TypedExpr) (x : TypedStmt) (o : Option TypedStmt) → run (stmt.If a c e x o) ≡ tested e >>= (λ w. when w (run x) (other o))
-  does_if a c e x None = ap run (sym (stmt.rolls-If a c e x None)) ∙ fold-roll-TypedStmt (Step State Flow) (stmt_step setting callees) (TypedStmt-F.If a c e x None)
-  does_if a c e x (Some z) = ap run (sym (stmt.rolls-If a c e x (Some z))) ∙ fold-roll-TypedStmt (Step State Flow) (stmt_step setting callees) (TypedStmt-F.If a c e x (Some z))
+  does_if a c e x None = ap run (sym (stmt.rolls-If a c e x None)) ∙ fold-roll-TypedStmt (Action State Flow) (stmt_step setting callees) (TypedStmt-F.If a c e x None)
+  does_if a c e x (Some z) = ap run (sym (stmt.rolls-If a c e x (Some z))) ∙ fold-roll-TypedStmt (Action State Flow) (stmt_step setting callees) (TypedStmt-F.If a c e x (Some z))
 
   does_while : (a : List TypedAttribute) (e : TypedExpr) (x : TypedStmt) → run (stmt.While a e x) ≡ loop (tested e) (run x) (pure tt)
-  does_while a e x = ap run (sym (stmt.rolls-While a e x)) ∙ fold-roll-TypedStmt (Step State Flow) (stmt_step setting callees) (TypedStmt-F.While a e x)
+  does_while a e x = ap run (sym (stmt.rolls-While a e x)) ∙ fold-roll-TypedStmt (Action State Flow) (stmt_step setting callees) (TypedStmt-F.While a e x)
 
   does_for : (a : List TypedAttribute) (b : Option TypedStart) (e : Option TypedExpr) (l : List TypedStep) (x : TypedStmt) → run (stmt.For a b e l x) ≡ started setting callees b >> loop (test_of setting callees e) (run x) (steps_do setting callees l)
-  does_for a b e l x = ap run (sym (stmt.rolls-For a b e l x)) ∙ fold-roll-TypedStmt (Step State Flow) (stmt_step setting callees) (TypedStmt-F.For a b e l x)
+  does_for a b e l x = ap run (sym (stmt.rolls-For a b e l x)) ∙ fold-roll-TypedStmt (Action State Flow) (stmt_step setting callees) (TypedStmt-F.For a b e l x)
 
   module _ (s : TypedStmt) (st : State) (t : ℕ) (x y : TypedStmt) (same : y ≡ x) where
     module _ (a : List TypedAttribute) (c : Bool) (e : TypedExpr) (o : Option TypedStmt) (is : s ≡ stmt.If a c e x o) where
-      abbrev branches : ℕ → Step State Flow
+      abbrev branches : ℕ → Action State Flow
       branches w = when w (run x) (other o)
 
       layer : run s st t ≡ and_then (tested e st t) branches
-      layer = ap (λ z. run z st t) is ∙ ap (λ (m : Step State Flow). m st t) (does_if a c e x o)
+      layer = ap (λ z. run z st t) is ∙ ap (λ (m : Action State Flow). m st t) (does_if a c e x o)
 
       pub if_stops : (h : Halt) → Stops (tested e st t) h → Stops (run s st t) h
       if_stops h d = stops_same _ _ h (sym layer) (stops_next (tested e st t) branches h d)
@@ -66,7 +66,7 @@ module _ (setting : Setting) (callees : List Callee) where
 
   module _ (s : TypedStmt) (st : State) (t : ℕ) where
     pub while_runs : (a : List TypedAttribute) (e : TypedExpr) (x : TypedStmt) → s ≡ stmt.While a e x → run s st t ≡ loop (tested e) (run x) (pure tt) st t
-    while_runs a e x is = ap (λ z. run z st t) is ∙ ap (λ (m : Step State Flow). m st t) (does_while a e x)
+    while_runs a e x is = ap (λ z. run z st t) is ∙ ap (λ (m : Action State Flow). m st t) (does_while a e x)
 
     pub for_runs : (a : List TypedAttribute) (b : Option TypedStart) (e : Option TypedExpr) (l : List TypedStep) (x : TypedStmt) → s ≡ stmt.For a b e l x → run s st t ≡ begun (started setting callees b) (loop (test_of setting callees e) (run x) (steps_do setting callees l)) st t
-    for_runs a b e l x is = ap (λ z. run z st t) is ∙ ap (λ (m : Step State Flow). m st t) (does_for a b e l x)
+    for_runs a b e l x is = ap (λ z. run z st t) is ∙ ap (λ (m : Action State Flow). m st t) (does_for a b e l x)

@@ -1,7 +1,7 @@
 -- What is left of a call, and of the kinds of expressions that evaluate one part first.
 use Rattle.std.proofs.Common.{◌≡◌, ℕ, zero, suc, ◌≤◌, List, [], ◌∷◌, length, drop, map, min, refl, sym, ap, ◌∙◌, arith, append-nil}
 use Rattle.std.specs.Prelude.{slice_get, Some, None}
-use Rattle.wg_state.specs.Turns.{Outcome, Done, Step, and_then, ◌>>=◌, ◌>>◌, pure}
+use Rattle.wg_state.specs.Turns.{Ending, Done, Action, and_then, ◌>>=◌, ◌>>◌, pure}
 use Rattle.wg_semantics.specs.declared.state.State.{State}
 use Rattle.wg_semantics.specs.declared.state.Passed.{Passed}
 use Rattle.wg_typed.specs.declared.typed.TypedFunction.{TypedFunction}
@@ -33,7 +33,7 @@ none_left structs [] s t = refl
 none_left structs (p ∷ ps) s t = refl
 
 -- when all arguments are passed, the first are all
-pub passed_end : {E : Type 0} (structs : List TypedStruct) (h : E → Seen) (ps : List TypedParameter) (es : List E) (i : ℕ) (done : List Passed) (s : State) (t : ℕ) (whole : Outcome State (List Passed)) → length es ≤ i → and_then (all_passed structs ps (map h (drop i es)) s t) (gives done) ≡ whole → whole ≡ Done done s t
+pub passed_end : {E : Type 0} (structs : List TypedStruct) (h : E → Seen) (ps : List TypedParameter) (es : List E) (i : ℕ) (done : List Passed) (s : State) (t : ℕ) (whole : Ending State (List Passed)) → length es ≤ i → and_then (all_passed structs ps (map h (drop i es)) s t) (gives done) ≡ whole → whole ≡ Done done s t
 passed_end structs h ps es i done s t whole le w =
     sym w
     ∙ ap (λ l. and_then (all_passed structs ps (map h l) s t) (gives done)) (drop_past es i le)
@@ -53,7 +53,7 @@ module _ (setting : Setting) (functions : List TypedFunction) (f : ℕ) (argumen
     its_parameters : callee.parameters ≡ c.parameters
     its_parameters = ap (λ (m : Callee). m.parameters) (function_found setting functions f c is)
 
-    abbrev rest : List Passed → Step State (List ℕ)
+    abbrev rest : List Passed → Action State (List ℕ)
     rest given = on_world (callee.does (map (λ (p : Passed). p.words) given)) >>= (λ left. all_back given left.1 >> pure left.0)
 
     starts : called setting.structs callee arguments s t ≡ and_then (all_passed setting.structs c.parameters arguments s t) rest

@@ -2,8 +2,8 @@
 use Rattle.std.proofs.Common.{◌≡◌, ◌≢◌, ◌==◌, ℕ, zero, suc, ◌<◌, ◌≤◌, true, false, not, if◌then◌else◌, refl, sym, ap, ◌∙◌, arith}
 use Rattle.std.proofs.lemmas.Bool.Decides.{nat_tests}
 use Rattle.std.specs.Prelude.{Some, None}
-use Rattle.wg_typed.specs.Operators.{is_true}
-use Rattle.wg_state.specs.Turns.{Outcome, Done, Step, and_then, ◌>>◌, pure}
+use Rattle.wg_words.specs.Truth.{is_true}
+use Rattle.wg_state.specs.Turns.{Ending, Done, Action, and_then, ◌>>◌, pure}
 use Rattle.wg_semantics.specs.declared.state.Flow.{Flow}
 use Rattle.wg_semantics.specs.declared.state.Flow.TheVariants as flow
 use Rattle.wg_semantics.specs.declared.state.State.{State}
@@ -17,37 +17,37 @@ use Rattle.wg_meaning.proofs.Sequences.{stops_next, stops_same}
 pub is_true_at : (n : ℕ) → n ≢ 0 → is_true n ≡ true
 is_true_at n m = let e : (n == 0) ≡ false = grind (arith, nat_tests) in ap not e
 
-pub record LoopGoesOn (test : Step State ℕ) (body : Step State Flow) (steps : Step State (Unit {0})) (s0 : State) (t0 : ℕ) (s : State) (t : ℕ) : Type 0 where
+pub record LoopGoesOn (test : Action State ℕ) (body : Action State Flow) (steps : Action State (Unit {0})) (s0 : State) (t0 : ℕ) (s : State) (t : ℕ) : Type 0 where
   pub bound : ℕ
   pub enough : t < bound
   pub same : loop_below bound test body steps s t ≡ loop test body steps s0 t0
 
-pub goes_first : (test : Step State ℕ) (body : Step State Flow) (steps : Step State (Unit {0})) (s : State) (t : ℕ) → LoopGoesOn test body steps s t s t
+pub goes_first : (test : Action State ℕ) (body : Action State Flow) (steps : Action State (Unit {0})) (s : State) (t : ℕ) → LoopGoesOn test body steps s t s t
 goes_first test body steps s t = record { bound = suc t; enough = omega arith; same = refl }
 
-left_again : (end : Flow) (again : Step State Flow) → loop_left end ≡ None → after_body end again ≡ again
+left_again : (end : Flow) (again : Action State Flow) → loop_left end ≡ None → after_body end again ≡ again
 left_again flow.Next again e = refl
 left_again flow.Continued again e = refl
 left_again flow.Broke again e = cc
 left_again (flow.Returned words) again e = cc
 
-left_pure : (end x : Flow) (again : Step State Flow) → loop_left end ≡ Some x → after_body end again ≡ pure x
+left_pure : (end x : Flow) (again : Action State Flow) → loop_left end ≡ Some x → after_body end again ≡ pure x
 left_pure flow.Next x again e = cc
 left_pure flow.Continued x again e = cc
 left_pure flow.Broke x again e = cc
 left_pure (flow.Returned words) x again e = cc
 
-module _ (test : Step State ℕ) (body : Step State Flow) (steps : Step State (Unit {0})) (s0 : State) (t0 : ℕ) (s : State) (t : ℕ) (g : LoopGoesOn test body steps s0 t0 s t) where
-  abbrev whole : Outcome State Flow
+module _ (test : Action State ℕ) (body : Action State Flow) (steps : Action State (Unit {0})) (s0 : State) (t0 : ℕ) (s : State) (t : ℕ) (g : LoopGoesOn test body steps s0 t0 s t) where
+  abbrev whole : Ending State Flow
   whole = loop test body steps s0 t0
 
-  abbrev again : ℕ → Step State Flow
+  abbrev again : ℕ → Action State Flow
   again b = loop_below b test body steps
 
-  abbrev after : ℕ → Flow → Step State Flow
+  abbrev after : ℕ → Flow → Action State Flow
   after b end = after_body end (steps >> again b)
 
-  abbrev entered : ℕ → ℕ → Step State Flow
+  abbrev entered : ℕ → ℕ → Action State Flow
   entered b go = when go (λ s t. and_then (entered_body body s t) (after b)) (pure flow.Next)
 
   record Bound : Type 0 where
@@ -87,11 +87,11 @@ module _ (test : Step State ℕ) (body : Step State Flow) (steps : Step State (U
         body_done = sym (ap (λ o. and_then o (after open_bound.less)) d2) ∙ in_body
 
         pub body_leaves : (x : Flow) → loop_left end ≡ Some x → whole ≡ Done x s2 t2
-        body_leaves x e = sym body_done ∙ ap (λ (m : Step State Flow). m s2 t2) (left_pure end x (steps >> again open_bound.less) e)
+        body_leaves x e = sym body_done ∙ ap (λ (m : Action State Flow). m s2 t2) (left_pure end x (steps >> again open_bound.less) e)
 
         module _ (e : loop_left end ≡ None) where
           in_steps : and_then (steps s2 t2) (λ u. again open_bound.less) ≡ whole
-          in_steps = sym (ap (λ (m : Step State Flow). m s2 t2) (left_again end (steps >> again open_bound.less) e)) ∙ body_done
+          in_steps = sym (ap (λ (m : Action State Flow). m s2 t2) (left_again end (steps >> again open_bound.less) e)) ∙ body_done
 
           pub steps_stop : (h : Halt) → Stops (steps s2 t2) h → Stops whole h
           steps_stop h d = stops_same _ whole h in_steps (stops_next (steps s2 t2) (λ u. again open_bound.less) h d)

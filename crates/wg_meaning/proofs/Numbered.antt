@@ -2,7 +2,7 @@
 use Rattle.std.proofs.Common.{◌≡◌, ℕ, zero, suc, ◌≤◌, List, [], ◌∷◌, length, take, sym, ap, ◌∙◌, arith, take_all, take-take}
 use Rattle.std.specs.Prelude.{slice_get, Some, None}
 use Rattle.std.proofs.lemmas.Option.{slice_get_within}
-use Rattle.wg_state.specs.Turns.{Outcome, Done}
+use Rattle.wg_state.specs.Turns.{Ending, Done}
 use Rattle.wg_semantics.specs.declared.state.State.{State}
 use Rattle.wg_typed.specs.declared.typed.TypedFunction.{TypedFunction}
 use Rattle.wg_semantics.specs.Places.{Setting}
@@ -19,7 +19,7 @@ module _ (setting : Setting) (functions : List TypedFunction) (reach f : ℕ) (v
   abbrev reached : List TypedFunction
   reached = take (suc reach) functions
 
-  abbrev pub run_of_number : Outcome State (List ℕ × List (List ℕ))
+  abbrev pub run_of_number : Ending State (List ℕ × List (List ℕ))
   run_of_number = on_world ((callee_at (callees_of setting reached) f).does values) s t
 
   pub nothing_runs : slice_get reached f ≡ None → run_of_number ≡ Done ([], []) s t

@@ -1,6 +1,6 @@
 -- What is left of a loop over steps.
 use Rattle.std.proofs.Common.{◌≡◌, ℕ, zero, suc, ◌+◌, ◌<◌, ◌≤◌, List, [], ◌∷◌, ◌++◌, length, drop, get_or, map, refl, sym, ap, ◌∙◌, arith, drop-cons, add-one, append-nil, append_assoc}
-use Rattle.wg_state.specs.Turns.{Outcome, Spent, Done, Step, and_then, ◌>>=◌, pure, each, all}
+use Rattle.wg_state.specs.Turns.{Ending, Spent, Done, Action, and_then, ◌>>=◌, pure, each, all}
 use Rattle.wg_semantics.specs.StmtMeaning.{block, then_go}
 use Rattle.wg_semantics.specs.declared.state.Flow.{Flow}
 use Rattle.wg_semantics.specs.declared.state.Flow.TheVariants as flow
@@ -26,29 +26,29 @@ at_index f xs i x e lt =
     ∙ ap (λ n. f x ∷ map f (drop n xs)) (sym (add-one i))
 
 -- what stops a step stops those that go on from it
-pub stops_next : {S A B : Type 0} (o : Outcome S A) (k : A → Step S B) (h : Halt) → Stops o h → Stops (and_then o k) h
+pub stops_next : {S A B : Type 0} (o : Ending S A) (k : A → Action S B) (h : Halt) → Stops o h → Stops (and_then o k) h
 stops_next o k halt.Turns e = ap (λ x. and_then x k) e
 stops_next o k halt.Memory e = tt
 
-pub stops_same : {S A : Type 0} (o p : Outcome S A) (h : Halt) → o ≡ p → Stops o h → Stops p h
+pub stops_same : {S A : Type 0} (o p : Ending S A) (h : Halt) → o ≡ p → Stops o h → Stops p h
 stops_same o p halt.Turns e s = sym e ∙ s
 stops_same o p halt.Memory e s = tt
 
 -- ---- lists of steps, where the answers of the first are known
 
-abbrev pub gives : {S A : Type 0} → List A → List A → Step S (List A)
+abbrev pub gives : {S A : Type 0} → List A → List A → Action S (List A)
 gives done more = pure (done ++ more)
 
-pub gives_none : {S A : Type 0} (o : Outcome S (List A)) → and_then o (gives []) ≡ o
+pub gives_none : {S A : Type 0} (o : Ending S (List A)) → and_then o (gives []) ≡ o
 gives_none Spent = refl
 gives_none (Done more s t) = refl
 
-pub gives_more : {S A : Type 0} (done : List A) (a : A) (o : Outcome S (List A)) → and_then o (gives (done ++ a ∷ [])) ≡ and_then (and_then o (λ more. pure (a ∷ more))) (gives done)
+pub gives_more : {S A : Type 0} (done : List A) (a : A) (o : Ending S (List A)) → and_then o (gives (done ++ a ∷ [])) ≡ and_then (and_then o (λ more. pure (a ∷ more))) (gives done)
 gives_more done a Spent = refl
 gives_more done a (Done more s t) = ap (λ l. Done l s t) (append_assoc done (a ∷ []) more)
 
-module _ {S A B E : Type 0} (g : B → Step S A) (h : E → B) (es : List E) (i : ℕ) (done : List A) (s : S) (t : ℕ) (whole : Outcome S (List A)) where
-  abbrev pub left : Outcome S (List A)
+module _ {S A B E : Type 0} (g : B → Action S A) (h : E → B) (es : List E) (i : ℕ) (done : List A) (s : S) (t : ℕ) (whole : Ending S (List A)) where
+  abbrev pub left : Ending S (List A)
   left = and_then (each (map g (map h (drop i es))) s t) (gives done)
 
   first_of : (e : E) → e ≡ get_or es i e → i < length es → left ≡ and_then (and_then (g (h e) s t) (λ a. each (map g (map h (drop (i + 1) es))) >>= (λ more. pure (a ∷ more)))) (gives done)
@@ -70,7 +70,7 @@ module _ {S A B E : Type 0} (g : B → Step S A) (h : E → B) (es : List E) (i 
 
 -- ---- forms and operators one after another
 
-module _ {E : Type 0} (f : E → Follows) (es : List E) (i : ℕ) (of : TypeTree) (p : Spot) (s : State) (t : ℕ) (whole : Outcome State Spot) (e : E) (is : e ≡ get_or es i e) (lt : i < length es) (w : followed (map f (drop i es)) of p s t ≡ whole) where
+module _ {E : Type 0} (f : E → Follows) (es : List E) (i : ℕ) (of : TypeTree) (p : Spot) (s : State) (t : ℕ) (whole : Ending State Spot) (e : E) (is : e ≡ get_or es i e) (lt : i < length es) (w : followed (map f (drop i es)) of p s t ≡ whole) where
   form_first : and_then ((f e).after of p s t) (followed (map f (drop (i + 1) es)) (f e).of) ≡ whole
   form_first = sym (ap (λ l. followed l of p s t) (at_index f es i e is lt)) ∙ w
 
@@ -80,7 +80,7 @@ module _ {E : Type 0} (f : E → Follows) (es : List E) (i : ℕ) (of : TypeTree
   pub follow_stops : (h : Halt) → Stops ((f e).after of p s t) h → Stops whole h
   follow_stops h d = stops_same _ whole h form_first (stops_next _ (followed (map f (drop (i + 1) es)) (f e).of) h d)
 
-module _ {E : Type 0} (f : E → Linked) (es : List E) (i : ℕ) (of : TypeTree) (words : List ℕ) (s : State) (t : ℕ) (whole : Outcome State (List ℕ)) (e : E) (is : e ≡ get_or es i e) (lt : i < length es) (w : chained (map f (drop i es)) of words s t ≡ whole) where
+module _ {E : Type 0} (f : E → Linked) (es : List E) (i : ℕ) (of : TypeTree) (words : List ℕ) (s : State) (t : ℕ) (whole : Ending State (List ℕ)) (e : E) (is : e ≡ get_or es i e) (lt : i < length es) (w : chained (map f (drop i es)) of words s t ≡ whole) where
   link_first : and_then ((f e).next of words s t) (chained (map f (drop (i + 1) es)) (f e).of) ≡ whole
   link_first = sym (ap (λ l. chained l of words s t) (at_index f es i e is lt)) ∙ w
 
@@ -92,7 +92,7 @@ module _ {E : Type 0} (f : E → Linked) (es : List E) (i : ℕ) (of : TypeTree)
 
 -- ---- steps and statements one after another
 
-module _ {S E : Type 0} (f : E → Step S (Unit {0})) (es : List E) (i : ℕ) (s : S) (t : ℕ) (whole : Outcome S (Unit {0})) (e : E) (is : e ≡ get_or es i e) (lt : i < length es) (w : all (map f (drop i es)) s t ≡ whole) where
+module _ {S E : Type 0} (f : E → Action S (Unit {0})) (es : List E) (i : ℕ) (s : S) (t : ℕ) (whole : Ending S (Unit {0})) (e : E) (is : e ≡ get_or es i e) (lt : i < length es) (w : all (map f (drop i es)) s t ≡ whole) where
   step_first : and_then (f e s t) (λ u. all (map f (drop (i + 1) es))) ≡ whole
   step_first = sym (ap (λ l. all l s t) (at_index f es i e is lt)) ∙ w
 
@@ -102,7 +102,7 @@ module _ {S E : Type 0} (f : E → Step S (Unit {0})) (es : List E) (i : ℕ) (s
   pub steps_stop : (h : Halt) → Stops (f e s t) h → Stops whole h
   steps_stop h d = stops_same _ whole h step_first (stops_next _ (λ u. all (map f (drop (i + 1) es))) h d)
 
-module _ {E : Type 0} (f : E → Step State Flow) (es : List E) (i : ℕ) (s : State) (t : ℕ) (whole : Outcome State Flow) (e : E) (is : e ≡ get_or es i e) (lt : i < length es) (w : block (map f (drop i es)) s t ≡ whole) where
+module _ {E : Type 0} (f : E → Action State Flow) (es : List E) (i : ℕ) (s : State) (t : ℕ) (whole : Ending State Flow) (e : E) (is : e ≡ get_or es i e) (lt : i < length es) (w : block (map f (drop i es)) s t ≡ whole) where
   stmt_first : and_then (f e s t) (λ end. then_go end (block (map f (drop (i + 1) es)))) ≡ whole
   stmt_first = sym (ap (λ l. block l s t) (at_index f es i e is lt)) ∙ w
 

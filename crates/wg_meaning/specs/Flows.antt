@@ -1,6 +1,6 @@
 -- What statements and loops do after a part of them has ended.
 use Rattle.std.specs.Prelude.{Bool, true, false, Option, Some, None, Result, Ok, Err}
-use Rattle.wg_state.specs.Turns.{Step, ◌>>◌, turn}
+use Rattle.wg_state.specs.Turns.{Action, ◌>>◌, turn}
 use Rattle.wg_semantics.specs.declared.state.State.{State}
 use Rattle.wg_semantics.specs.declared.state.Flow.{Flow}
 use Rattle.wg_semantics.specs.declared.state.Flow.TheVariants as flow
@@ -14,11 +14,11 @@ goes_on flow.Continued = false
 goes_on (flow.Returned words) = false
 
 -- what a `for` begins with, then its loop
-abbrev pub begun : Step State (Unit {0}) → Step State Flow → Step State Flow
+abbrev pub begun : Action State (Unit {0}) → Action State Flow → Action State Flow
 begun start loop = start >> loop
 
 -- a loop's body takes a turn
-abbrev pub entered : Step State Flow → Step State Flow
+abbrev pub entered : Action State Flow → Action State Flow
 entered body = turn >> body
 
 -- how a loop ends after its body, if it does

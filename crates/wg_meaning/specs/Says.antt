@@ -1,6 +1,6 @@
 -- What the program's answer says of a step.
 use Rattle.std.specs.Prelude.{◌≡◌, ⊤, ℕ, List, Option, Some, None, Result, Ok, Err, take}
-use Rattle.wg_state.specs.Turns.{Outcome, Spent, Done, Step, ◌>>=◌, pure}
+use Rattle.wg_state.specs.Turns.{Ending, Spent, Done, Action, ◌>>=◌, pure}
 use Rattle.wg_semantics.specs.declared.state.State.{State}
 use Rattle.wg_semantics.specs.declared.state.Spot.{Spot}
 use Rattle.wg_semantics.specs.declared.state.Spot.TheVariants as spot
@@ -15,12 +15,12 @@ use Rattle.wg_values.specs.declared.place.Setting.{Setting as Given}
 use Rattle.wg_values.specs.Pieces.{setting_of}
 
 -- turns are spent where the step spends them; want of memory says nothing
-abbrev pub Stops : {S A : Type 0} → Outcome S A → Halt → Type 0
+abbrev pub Stops : {S A : Type 0} → Ending S A → Halt → Type 0
 Stops o halt.Turns = o ≡ Spent
 Stops o halt.Memory = ⊤
 
 -- the step's own answer, state and turns left
-abbrev pub Says : {S A : Type 0} → Outcome S A → Result A Halt → S → ℕ → Type 0
+abbrev pub Says : {S A : Type 0} → Ending S A → Result A Halt → S → ℕ → Type 0
 Says o (Ok a) s t = o ≡ Done a s t
 Says o (Err h) s t = Stops o h
 
@@ -38,7 +38,7 @@ spot_result (Ok words) = Ok (spot.Value words)
 spot_result (Err h) = Err h
 
 -- the word of a raw buffer that an interlocked form changes
-abbrev pub raw_destination_of : Setting → ℕ → Seen → Step State Spot
+abbrev pub raw_destination_of : Setting → ℕ → Seen → Action State Spot
 raw_destination_of setting buffer address = do
   at ← word_of setting address
   pure (raw_word buffer at)

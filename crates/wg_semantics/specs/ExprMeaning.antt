@@ -1,6 +1,6 @@
 -- What an expression does: a fold over one layer of the typed tree into steps of a lane. Evaluation goes from left to right.
 use Rattle.std.specs.Prelude.{ℕ, ◌+◌, ◌/◌, true, false, if◌then◌else◌, List, [], ◌∷◌, map, length, slice_index, Option, Some, None, is_some}
-use Rattle.wg_state.specs.Turns.{Step, ◌>>=◌, pure, read, each}
+use Rattle.wg_state.specs.Turns.{Action, ◌>>=◌, pure, read, each}
 use Rattle.wg_tree.specs.declared.expr.BinaryOperator.{BinaryOperator}
 use Rattle.wg_tree.specs.declared.expr.BinaryOperator.TheVariants as binary
 use Rattle.wg_semantics.specs.declared.state.State.{State}
@@ -15,26 +15,28 @@ use Rattle.wg_typed.specs.declared.typed_expr.TypedLink.{TypedLink}
 use Rattle.wg_typed.specs.declared.typed_expr.Access.TheFolds.{fold-TypedExpr, fold-TypedKind, fold-Access, fold-TypedLink}
 use Rattle.wg_typed.specs.declared.typed_expr.Access.TheOpen.{TypedExpr-F, TypedKind-F, Access-F, TypedLink-F}
 use Rattle.wg_typed.specs.Layout.{words_of, field_range, put}
-use Rattle.wg_typed.specs.Operators.{scalar_of, is_true, truth, converted, combined, prefixed, pairwise}
+use Rattle.wg_typed.specs.Operators.{scalar_of, converted, combined, prefixed, pairwise}
+use Rattle.wg_words.specs.Truth.{is_true, truth}
 use Rattle.wg_typed.specs.Intrinsics.{called_with}
-use Rattle.wg_semantics.specs.Places.{Setting, fetched, zeros, words_from, list_at, part_at, array_size, element_at, buffer_element, input_record, handle_record}
+use Rattle.wg_semantics.specs.Places.{Setting, fetched, words_from, part_at, array_size, element_at, buffer_element, input_record, handle_record}
+use Rattle.wg_state.specs.WordLists.{zeros, list_at}
 use Rattle.wg_state.specs.Requests.{target_of}
 use Rattle.wg_semantics.specs.Calls.{Seen, Callee, callee_at, value_of, called}
 
 -- ---- values
 
 -- the one word of a scalar's value
-abbrev pub word_of : Setting → Seen → Step State ℕ
+abbrev pub word_of : Setting → Seen → Action State ℕ
 word_of setting e = do
   words ← value_of setting.structs e
   pure (slice_index words 0)
 
 -- an index that is not written is 0
-abbrev pub index_of : Setting → Option Seen → Step State ℕ
+abbrev pub index_of : Setting → Option Seen → Action State ℕ
 index_of setting None = pure 0
 index_of setting (Some e) = word_of setting e
 
-abbrev pub when : {A : Type 0} → ℕ → Step State A → Step State A → Step State A
+abbrev pub when : {A : Type 0} → ℕ → Action State A → Action State A → Action State A
 when word first second = if is_true word then first else second
 
 -- ---- forms after a value
@@ -42,23 +44,23 @@ when word first second = if is_true word then first else second
 -- a form: what it makes of a value of a type, and the type of that
 pub record Follows : Type 0 where
   pub of : TypeTree
-  pub after : TypeTree → Spot → Step State Spot
+  pub after : TypeTree → Spot → Action State Spot
 
 -- one component is a place; several are a value
-abbrev pub components_of : Setting → List ℕ → TypeTree → Spot → Step State Spot
+abbrev pub components_of : Setting → List ℕ → TypeTree → Spot → Action State Spot
 components_of setting (c ∷ []) t p = pure (part_at (record { from = c; to = c + 1 }) p)
 components_of setting components t p = do
   words ← read (fetched setting.structs t p)
   pure (spot.Value (map (slice_index words) components))
 
 -- the index first, then the element
-abbrev pub indexed : Setting → Seen → TypeTree → TypeTree → Spot → Step State Spot
+abbrev pub indexed : Setting → Seen → TypeTree → TypeTree → Spot → Action State Spot
 indexed setting index of t p = do
   at ← word_of setting index
   pure (element_at (array_size t) (words_of setting.structs of) at p)
 
 -- the forms, from left to right
-abbrev pub followed : List Follows → TypeTree → Spot → Step State Spot
+abbrev pub followed : List Follows → TypeTree → Spot → Action State Spot
 followed [] t p = pure p
 followed (f ∷ rest) t p = f.after t p >>= followed rest f.of
 
@@ -67,10 +69,10 @@ followed (f ∷ rest) t p = f.after t p >>= followed rest f.of
 -- an operator and its right operand: what they make of a value of a type, and the type of that
 pub record Linked : Type 0 where
   pub of : TypeTree
-  pub next : TypeTree → List ℕ → Step State (List ℕ)
+  pub next : TypeTree → List ℕ → Action State (List ℕ)
 
 -- `&&` and `||` evaluate only what they need
-abbrev pub operated : Setting → BinaryOperator → TypeTree → Seen → List ℕ → Step State (List ℕ)
+abbrev pub operated : Setting → BinaryOperator → TypeTree → Seen → List ℕ → Action State (List ℕ)
 operated setting binary.And t e words = when (slice_index words 0) (value_of setting.structs e) (pure (truth false ∷ []))
 operated setting binary.Or t e words = when (slice_index words 0) (pure (truth true ∷ [])) (value_of setting.structs e)
 operated setting operator t e words = do
@@ -78,32 +80,32 @@ operated setting operator t e words = do
   pure (pairwise (combined operator (scalar_of t)) words right)
 
 -- the left side is converted first, if it is of another type
-abbrev pub linked : Setting → BinaryOperator → Option TypeTree → Seen → TypeTree → List ℕ → Step State (List ℕ)
+abbrev pub linked : Setting → BinaryOperator → Option TypeTree → Seen → TypeTree → List ℕ → Action State (List ℕ)
 linked setting operator None e t words = operated setting operator t e words
 linked setting operator (Some by) e t words = operated setting operator by e (converted t by words)
 
-abbrev pub chained : List Linked → TypeTree → List ℕ → Step State (List ℕ)
+abbrev pub chained : List Linked → TypeTree → List ℕ → Action State (List ℕ)
 chained [] t words = pure words
 chained (l ∷ rest) t words = l.next t words >>= chained rest l.of
 
 -- ---- one layer of the tree
 
-abbrev pub access_step : Setting → Access-F Follows (TypeTree → Step State Spot) Seen Linked → Follows
+abbrev pub access_step : Setting → Access-F Follows (TypeTree → Action State Spot) Seen Linked → Follows
 access_step setting (Access-F.Field field of) =
     record { of = of; after = λ t p. pure (part_at (field_range setting.structs t field) p) }
 access_step setting (Access-F.Components components of) = record { of = of; after = components_of setting components }
 access_step setting (Access-F.Index index of) = record { of = of; after = indexed setting index of }
 
-abbrev pub link_step : Setting → TypedLink-F Follows (TypeTree → Step State Spot) Seen Linked → Linked
+abbrev pub link_step : Setting → TypedLink-F Follows (TypeTree → Action State Spot) Seen Linked → Linked
 link_step setting l = record { of = l.of; next = linked setting l.operator l.before l.operand }
 
-abbrev pub expr_step : TypedExpr-F Follows (TypeTree → Step State Spot) Seen Linked → Seen
+abbrev pub expr_step : TypedExpr-F Follows (TypeTree → Action State Spot) Seen Linked → Seen
 expr_step e = record { of = e.of; spot = e.kind e.of }
 
-abbrev pub valued : Step State (List ℕ) → Step State Spot
+abbrev pub valued : Action State (List ℕ) → Action State Spot
 valued m = m >>= (λ words. pure (spot.Value words))
 
-abbrev pub kind_step : Setting → List Callee → TypedKind-F Follows (TypeTree → Step State Spot) Seen Linked → TypeTree → Step State Spot
+abbrev pub kind_step : Setting → List Callee → TypedKind-F Follows (TypeTree → Action State Spot) Seen Linked → TypeTree → Action State Spot
 kind_step setting callees (TypedKind-F.Literal words) t = pure (spot.Value words)
 kind_step setting callees (TypedKind-F.Local local) t = pure (spot.At (store.Local local) 0)
 kind_step setting callees (TypedKind-F.Parameter parameter) t = pure (spot.At (store.Parameter parameter) 0)
@@ -153,17 +155,17 @@ kind_step setting callees (TypedKind-F.Intrinsic call arguments) t = do
 -- what an expression is
 abbrev pub seen : Setting → List Callee → TypedExpr → Seen
 seen setting callees =
-    fold-TypedExpr Follows (TypeTree → Step State Spot) Seen Linked (access_step setting) (kind_step setting callees) expr_step (link_step setting)
+    fold-TypedExpr Follows (TypeTree → Action State Spot) Seen Linked (access_step setting) (kind_step setting callees) expr_step (link_step setting)
 
 -- what an expression of a kind does, by its type
-abbrev pub kind_does : Setting → List Callee → TypedKind → TypeTree → Step State Spot
+abbrev pub kind_does : Setting → List Callee → TypedKind → TypeTree → Action State Spot
 kind_does setting callees =
-    fold-TypedKind Follows (TypeTree → Step State Spot) Seen Linked (access_step setting) (kind_step setting callees) expr_step (link_step setting)
+    fold-TypedKind Follows (TypeTree → Action State Spot) Seen Linked (access_step setting) (kind_step setting callees) expr_step (link_step setting)
 
 abbrev pub follows : Setting → List Callee → Access → Follows
 follows setting callees =
-    fold-Access Follows (TypeTree → Step State Spot) Seen Linked (access_step setting) (kind_step setting callees) expr_step (link_step setting)
+    fold-Access Follows (TypeTree → Action State Spot) Seen Linked (access_step setting) (kind_step setting callees) expr_step (link_step setting)
 
 abbrev pub links : Setting → List Callee → TypedLink → Linked
 links setting callees =
-    fold-TypedLink Follows (TypeTree → Step State Spot) Seen Linked (access_step setting) (kind_step setting callees) expr_step (link_step setting)
+    fold-TypedLink Follows (TypeTree → Action State Spot) Seen Linked (access_step setting) (kind_step setting callees) expr_step (link_step setting)

@@ -1,6 +1,6 @@
 -- What a plain function does, from what the functions before it do: its locals are zeros, and its result is what it returns, or zeros.
 use Rattle.std.specs.Prelude.{ℕ, List, [], ◌∷◌, ◌++◌, map, Option, Some, None}
-use Rattle.wg_state.specs.Turns.{Outcome, Spent, Done, Step}
+use Rattle.wg_state.specs.Turns.{Ending, Spent, Done, Action}
 use Rattle.wg_semantics.specs.declared.state.State.{State}
 use Rattle.wg_state.specs.declared.world.World.{World}
 use Rattle.wg_semantics.specs.declared.state.Flow.{Flow}
@@ -9,7 +9,8 @@ use Rattle.wg_typed.specs.declared.types.TypeTree.{TypeTree}
 use Rattle.wg_typed.specs.declared.typed.TypedFunction.{TypedFunction}
 use Rattle.wg_typed.specs.declared.typed.TypedStruct.{TypedStruct}
 use Rattle.wg_typed.specs.Layout.{words_of}
-use Rattle.wg_semantics.specs.Places.{Setting, zeros}
+use Rattle.wg_semantics.specs.Places.{Setting}
+use Rattle.wg_state.specs.WordLists.{zeros}
 use Rattle.wg_semantics.specs.Calls.{Callee}
 use Rattle.wg_semantics.specs.StmtMeaning.{body_does}
 
@@ -28,11 +29,11 @@ result_of n flow.Broke = zeros n
 result_of n flow.Continued = zeros n
 result_of n (flow.Returned words) = words
 
-abbrev pub leaves : ℕ → Outcome State Flow → Outcome World (List ℕ × List (List ℕ))
+abbrev pub leaves : ℕ → Ending State Flow → Ending World (List ℕ × List (List ℕ))
 leaves n Spent = Spent
 leaves n (Done end s t) = Done (result_of n end, s.frame.parameters) s.world t
 
-abbrev pub function_does : Setting → List Callee → TypedFunction → List (List ℕ) → Step World (List ℕ × List (List ℕ))
+abbrev pub function_does : Setting → List Callee → TypedFunction → List (List ℕ) → Action World (List ℕ × List (List ℕ))
 function_does setting callees f values = λ w t.
     leaves (result_words setting.structs f.result)
     (body_does setting callees f.body (record { frame = record { parameters = values; locals = fresh_locals setting.structs f.locals }; world = w }) t)

@@ -1,23 +1,23 @@
 -- What a launch of a node does, on the typed text (Work Graphs, "Thread launch nodes", "Output records"). That a launch runs in phases,
 -- in each of which its lanes go one after another, is this project's own rule.
-use Rattle.std.specs.Prelude.{ℕ, zero, suc, ◌-◌, ◌*◌, ◌/◌, ◌%◌, ◌==◌, ◌&&◌, Bool, true, false, if◌then◌else◌, List, [], ◌∷◌, ◌++◌, map, slice_get, slice_index, take, codes, Option, Some, None}
+use Rattle.std.specs.Prelude.{ℕ, zero, suc, Bool, true, false, if◌then◌else◌, List, [], ◌∷◌, ◌++◌, map, slice_get, take, codes, Option, Some, None}
 use Rattle.std.specs.Str.{bytes_eq}
-use Rattle.std.specs.List.{flat_map}
-use Rattle.wg_words.specs.Words.{sum_of, product_of}
-use Rattle.wg_state.specs.Turns.{Outcome, Spent, Done, Step, ◌>>=◌, pure}
-use Rattle.wg_tree.specs.declared.expr.Named.{Named}
-use Rattle.wg_semantics.specs.declared.state.Frame.{Frame}
+use Rattle.wg_machine.specs.declared.launch.Launch.{Launch}
+use Rattle.wg_machine.specs.declared.shape.Shape.{Shape}
+use Rattle.wg_machine.specs.declared.shape.Unit.{Unit as Node}
+use Rattle.wg_machine.specs.LaunchMeaning.{Meaning}
+use Rattle.wg_state.specs.Lanes.{coordinates_of, dispatch_of, lanes_in}
+use Rattle.wg_state.specs.Launching.{world_before, outcome_after, does_nothing}
+use Rattle.wg_state.specs.Turns.{Ending, Spent, Done, Action, ◌>>=◌, pure}
+use Rattle.wg_state.specs.WordLists.{zeros}
 use Rattle.wg_state.specs.declared.world.World.{World}
+use Rattle.wg_tree.specs.declared.expr.Named.{Named}
+use Rattle.wg_semantics.specs.declared.state.Body.{Body}
+use Rattle.wg_semantics.specs.declared.state.Frame.{Frame}
 use Rattle.wg_semantics.specs.declared.state.State.{State}
 use Rattle.wg_semantics.specs.declared.state.Flow.{Flow}
 use Rattle.wg_semantics.specs.declared.state.Flow.TheVariants as flow
-use Rattle.wg_state.specs.declared.world.Grant.{Grant}
-use Rattle.wg_state.specs.declared.world.Sender.{Sender}
-use Rattle.wg_semantics.specs.declared.state.NodeUnit.{NodeUnit}
-use Rattle.wg_semantics.specs.declared.state.Group.{Group}
-use Rattle.wg_semantics.specs.declared.state.SentRecord.{SentRecord}
 use Rattle.wg_semantics.specs.declared.state.Lane.{Lane}
-use Rattle.wg_semantics.specs.declared.state.Launched.{Launched}
 use Rattle.wg_typed.specs.declared.typed.Typed.{Typed}
 use Rattle.wg_typed.specs.declared.typed.TypedFunction.{TypedFunction}
 use Rattle.wg_typed.specs.declared.typed.TypedParameter.{TypedParameter}
@@ -27,7 +27,7 @@ use Rattle.wg_typed.specs.declared.typed_stmt.TypedStmt.{TypedStmt}
 use Rattle.wg_typed.specs.declared.typed_stmt.TypedStmt.TheFolds.{fold-TypedStmt}
 use Rattle.wg_typed.specs.declared.typed_stmt.TypedStmt.TheOpen.{TypedStmt-F}
 use Rattle.wg_typed.specs.Layout.{words_of}
-use Rattle.wg_semantics.specs.Places.{Setting, zeros}
+use Rattle.wg_semantics.specs.Places.{Setting}
 use Rattle.wg_semantics.specs.Calls.{parameter_words}
 use Rattle.wg_semantics.specs.StmtMeaning.{body_does}
 use Rattle.wg_semantics.specs.FunctionMeaning.{fresh_locals, callees_of}
@@ -36,7 +36,7 @@ use Rattle.wg_semantics.specs.FunctionMeaning.{fresh_locals, callees_of}
 
 -- A run of statements that each lane goes through. A collective `if` will be one more case.
 pub data Phase : Type 0 where
-  Run : List TypedStmt → Phase
+  OnLanes : List TypedStmt → Phase
 
 -- a handle's request, an increment, an `OutputComplete` or a barrier that syncs
 abbrev pub collective_step : TypedStmt-F Bool → Bool
@@ -52,12 +52,12 @@ is_collective = fold-TypedStmt Bool collective_step
 -- a run of statements, if there are any, before other phases
 abbrev pub after_run : List TypedStmt → List Phase → List Phase
 after_run [] phases = phases
-after_run (s ∷ run) phases = Run (s ∷ run) ∷ phases
+after_run (s ∷ run) phases = OnLanes (s ∷ run) ∷ phases
 
 abbrev pub phases_after : List TypedStmt → List TypedStmt → List Phase
 phases_after run [] = after_run run []
 phases_after run (s ∷ rest) =
-    if is_collective s then after_run run (Run (s ∷ []) ∷ phases_after [] rest) else phases_after (run ++ s ∷ []) rest
+    if is_collective s then after_run run (OnLanes (s ∷ []) ∷ phases_after [] rest) else phases_after (run ++ s ∷ []) rest
 
 -- Each direct collective statement of a body is a phase, and so is each run of statements between two of them.
 abbrev pub phases_of : List TypedStmt → List Phase
@@ -71,53 +71,39 @@ has_returned flow.Broke = false
 has_returned flow.Continued = false
 has_returned (flow.Returned words) = true
 
-abbrev pub lane_after : Outcome State Flow → Outcome World Lane
+abbrev pub lane_after : Ending State Flow → Ending World Lane
 lane_after Spent = Spent
 lane_after (Done end s t) = Done (record { frame = s.frame; returned = has_returned end }) s.world t
 
-abbrev pub lane_runs : Step State Flow → Lane → Step World Lane
+abbrev pub lane_runs : Action State Flow → Lane → Action World Lane
 lane_runs body lane = if lane.returned then pure lane else (λ w t. lane_after (body (record { frame = lane.frame; world = w }) t))
 
--- what the body of an entry function's phase does on a lane by its number
-abbrev pub Bodies : Type 0
-Bodies = ℕ → Step State Flow
+-- what is done on a lane, by its number
+abbrev pub LaneActions : Type 0
+LaneActions = ℕ → Action State Flow
 
 -- the lanes one after another, from a number on
-abbrev pub lanes_run : Bodies → ℕ → List Lane → Step World (List Lane)
+abbrev pub lanes_run : LaneActions → ℕ → List Lane → Action World (List Lane)
 lanes_run bodies at [] = pure []
 lanes_run bodies at (lane ∷ rest) = do
   first ← lane_runs (bodies at) lane
   others ← lanes_run bodies (suc at) rest
   pure (first ∷ others)
 
-abbrev pub phase_runs : (List TypedStmt → Bodies) → Phase → List Lane → Step World (List Lane)
-phase_runs bodies (Run body) lanes = lanes_run (bodies body) 0 lanes
+abbrev pub phase_runs : (List TypedStmt → LaneActions) → Phase → List Lane → Action World (List Lane)
+phase_runs bodies (OnLanes body) lanes = lanes_run (bodies body) 0 lanes
 
-abbrev pub phases_run : (List TypedStmt → Bodies) → List Phase → List Lane → Step World (List Lane)
+abbrev pub phases_run : (List TypedStmt → LaneActions) → List Phase → List Lane → Action World (List Lane)
 phases_run bodies [] lanes = pure lanes
 phases_run bodies (phase ∷ rest) lanes = phase_runs bodies phase lanes >>= phases_run bodies rest
 
 -- ---- what a lane begins with
 
--- a lane's place in its group, x running fastest
-abbrev pub place_of : List ℕ → ℕ → List ℕ
-place_of threads lane =
-    lane % slice_index threads 0 ∷ lane / slice_index threads 0 % slice_index threads 1 ∷ lane / (slice_index threads 0 * slice_index threads 1) ∷ []
-
-abbrev pub dispatch_component : List ℕ → List ℕ → ℕ → ℕ → ℕ
-dispatch_component group threads lane k =
-    sum_of 32 (product_of 32 (slice_index group k) (slice_index threads k)) (slice_index (place_of threads lane) k)
-
--- `SV_DispatchThreadID = SV_GroupID * NumThreads + SV_GroupThreadID`, component by component
-abbrev pub dispatch_of : List ℕ → List ℕ → ℕ → List ℕ
-dispatch_of group threads lane =
-    dispatch_component group threads lane 0 ∷ dispatch_component group threads lane 1 ∷ dispatch_component group threads lane 2 ∷ []
-
 -- the words of a system value; none of an unknown one
 abbrev pub system_named : List ℕ → List ℕ → ℕ → List ℕ → List ℕ
 system_named group threads lane name =
     if bytes_eq name (codes "SV_GroupID") then group
-    else if bytes_eq name (codes "SV_GroupThreadID") then place_of threads lane
+    else if bytes_eq name (codes "SV_GroupThreadID") then coordinates_of threads lane
     else if bytes_eq name (codes "SV_DispatchThreadID") then dispatch_of group threads lane
     else if bytes_eq name (codes "SV_GroupIndex") then lane ∷ []
     else []
@@ -142,72 +128,42 @@ first_lanes frame at (suc n) = record { frame = frame at; returned = false } ∷
 abbrev pub first_shared : List TypedStruct → List TypedShared → List (List ℕ)
 first_shared structs variables = map (λ (v : TypedShared). zeros (words_of structs v.of)) variables
 
-abbrev pub first_world : Typed → NodeUnit → Group → List (List ℕ) → World
-first_world text unit group buffers = record {
-  shared = first_shared text.structs text.shared;
-  inputs = group.records;
-  grants = [];
-  left = unit.budgets;
-  denied = 0;
-  buffers = buffers;
-}
+-- ---- a launch
 
--- ---- the records that are sent
-
-abbrev pub is_of : ℕ → ℕ → Grant → Bool
-is_of output element g = (g.output == output) && (g.element == element)
-
-abbrev pub sent_by : ℕ → Grant → List SentRecord
-sent_by unit g = map (λ words. record { unit = unit; words = words }) g.items
-
-abbrev pub sent_if : Bool → ℕ → Grant → List SentRecord
-sent_if chosen unit g = if chosen then sent_by unit g else []
-
--- the records of an element, by request and index
-abbrev pub sent_to : ℕ → ℕ → ℕ → List Grant → List SentRecord
-sent_to output element unit grants = flat_map (λ g. sent_if (is_of output element g) unit g) grants
-
--- an element without a target is granted nothing
-abbrev pub sent_at : ℕ → ℕ → Option ℕ → List Grant → List SentRecord
-sent_at output element None grants = []
-sent_at output element (Some unit) grants = sent_to output element unit grants
-
-abbrev pub sent_from : ℕ → ℕ → List (Option ℕ) → List Grant → List SentRecord
-sent_from output element [] grants = []
-sent_from output element (target ∷ rest) grants = sent_at output element target grants ++ sent_from output (suc element) rest grants
-
--- by output, then element
-abbrev pub sent_through : ℕ → List Sender → List Grant → List SentRecord
-sent_through output [] grants = []
-sent_through output (o ∷ rest) grants = sent_from output 0 o.targets grants ++ sent_through (suc output) rest grants
-
--- ---- the launch
-
-abbrev pub setting_of : Typed → TypedFunction → NodeUnit → ℕ → Setting
-setting_of text f unit lane =
+abbrev pub entry_setting : Typed → TypedFunction → Node → ℕ → Setting
+entry_setting text f unit lane =
     record { structs = text.structs; handles = f.handles; outputs = unit.outputs; level = unit.level; lane = lane }
 
-abbrev pub entry_bodies : Typed → TypedFunction → NodeUnit → List TypedStmt → Bodies
-entry_bodies text f unit body lane = body_does (setting_of text f unit lane) (callees_of (setting_of text f unit lane) text.functions) body
+-- what statements of an entry function do on each lane
+abbrev pub entry_does : Typed → TypedFunction → Node → List TypedStmt → LaneActions
+entry_does text f unit body lane =
+    body_does (entry_setting text f unit lane) (callees_of (entry_setting text f unit lane) text.functions) body
 
-abbrev pub lanes_in : List ℕ → ℕ
-lanes_in threads = slice_index threads 0 * slice_index threads 1 * slice_index threads 2
+abbrev pub entry_lanes : Typed → TypedFunction → List ℕ → Launch → List Lane
+entry_lanes text f threads launch =
+    first_lanes (first_frame text.structs f (coordinates_of launch.grid launch.group) threads) 0 (lanes_in threads)
 
-abbrev pub entry_runs : Typed → TypedFunction → NodeUnit → Group → Step World (List Lane)
-entry_runs text f unit group =
-    phases_run (entry_bodies text f unit) (phases_of f.body) (first_lanes (first_frame text.structs f group.at unit.threads) 0 (lanes_in unit.threads))
+abbrev pub entry_runs : Typed → TypedFunction → List ℕ → Node → Launch → Action World (List Lane)
+entry_runs text f threads unit launch =
+    phases_run (entry_does text f unit) (phases_of f.body) (entry_lanes text f threads launch)
 
--- what it did within so many turns
-abbrev pub launched : List Sender → ℕ → Outcome World (List Lane) → Option Launched
-launched outputs turns Spent = None
-launched outputs turns (Done lanes w t) =
-    Some (record { sent = sent_through 0 outputs w.grants; denied = w.denied; turns = turns - t; buffers = w.buffers })
+-- a body of an unknown function does nothing
+abbrev pub function_made : Typed → Option TypedFunction → List ℕ → Node → Meaning
+function_made text None threads unit launch buffers turns = does_nothing launch buffers turns
+function_made text (Some f) threads unit launch buffers turns =
+    outcome_after unit turns (entry_runs text f threads unit launch (world_before (first_shared text.structs text.shared) unit launch buffers) turns)
 
-abbrev pub launch_of : Typed → Option TypedFunction → NodeUnit → Group → List (List ℕ) → ℕ → Option Launched
-launch_of text None unit group buffers turns = Some (record { sent = []; denied = 0; turns = 0; buffers = buffers })
-launch_of text (Some f) unit group buffers turns =
-    launched unit.outputs turns (entry_runs text f unit group (first_world text unit group buffers) turns)
+-- nor does a node without a body
+abbrev pub body_made : Typed → Option Body → Node → Meaning
+body_made text None unit = does_nothing
+body_made text (Some body) unit = function_made text (slice_get text.functions body.function) body.threads unit
 
--- What a launch of a unit does to the buffers within so many turns; none where it is spent: where it would make one turn more.
-abbrev pub made : Typed → NodeUnit → Group → List (List ℕ) → ℕ → Option Launched
-made text unit group buffers turns = launch_of text (slice_get text.functions unit.function) unit group buffers turns
+-- nor does an unknown unit
+abbrev pub unit_made : Typed → List Body → Option Node → Meaning
+unit_made text bodies None launch buffers turns = does_nothing launch buffers turns
+unit_made text bodies (Some unit) launch buffers turns = body_made text (slice_get bodies unit.node) unit launch buffers turns
+
+-- What a launch on a shape does to the buffers within so many turns, where its nodes have these bodies by their numbers; none where it is
+-- spent: where it would make one turn more.
+abbrev pub made : Typed → List Body → Shape → Meaning
+made text bodies shape launch buffers turns = unit_made text bodies (slice_get shape.units launch.unit) launch buffers turns

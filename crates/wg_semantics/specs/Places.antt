@@ -1,10 +1,10 @@
 -- Where values stand, and how they are read and written there. Reading outside gives zeros, and writing there does nothing; own.
-use Rattle.std.specs.Prelude.{ℕ, zero, suc, ◌+◌, ◌*◌, Bool, false, nat_lt, nat_le, ◌&&◌, ◌==◌, if◌then◌else◌, List, [], ◌∷◌, length, replicate, slice_get, slice_index, slice_set, Option, Some, None, unwrap_or}
+use Rattle.std.specs.Prelude.{ℕ, zero, suc, ◌+◌, ◌*◌, nat_lt, nat_le, if◌then◌else◌, List, [], ◌∷◌, length, slice_get, slice_index, slice_set, Option, Some, None}
 use Rattle.wg_semantics.specs.declared.state.Frame.{Frame}
 use Rattle.wg_state.specs.declared.world.World.{World}
 use Rattle.wg_semantics.specs.declared.state.State.{State}
 use Rattle.wg_state.specs.declared.world.Grant.{Grant}
-use Rattle.wg_state.specs.declared.world.Sender.{Sender}
+use Rattle.wg_machine.specs.declared.shape.Output.{Output}
 use Rattle.wg_semantics.specs.declared.state.Store.{Store}
 use Rattle.wg_semantics.specs.declared.state.Store.TheVariants as store
 use Rattle.wg_semantics.specs.declared.state.Spot.{Spot}
@@ -14,13 +14,15 @@ use Rattle.wg_typed.specs.declared.types.TypeTree.TheVariants as type
 use Rattle.wg_typed.specs.declared.typed.TypedStruct.{TypedStruct}
 use Rattle.wg_typed.specs.declared.typed.TypedHandle.{TypedHandle}
 use Rattle.wg_typed.specs.Layout.{Range, words_of, words_in}
+use Rattle.wg_state.specs.Requests.{latest}
+use Rattle.wg_state.specs.WordLists.{zeros, list_at}
 use Rattle.wg_semantics.specs.Truths.{truths_in, cleaned}
 
 -- what stays the same while a lane runs: the text's structs, the entry function's handles, its unit's outputs and level, and the lane's number
 pub record Setting : Type 0 where
   pub structs : List TypedStruct
   pub handles : List TypedHandle
-  pub outputs : List Sender
+  pub outputs : List Output
   pub level : ℕ
   pub lane : ℕ
 
@@ -35,12 +37,6 @@ words_from words from (suc n) = slice_index words from ∷ words_from words (suc
 abbrev pub over_written : List ℕ → ℕ → List ℕ → List ℕ
 over_written words from [] = words
 over_written words from (v ∷ values) = over_written (slice_set words from v) (suc from) values
-
-abbrev pub zeros : ℕ → List ℕ
-zeros n = replicate n 0
-
-abbrev pub list_at : List (List ℕ) → ℕ → List ℕ
-list_at lists at = unwrap_or (slice_get lists at) []
 
 -- ---- stores
 
@@ -130,16 +126,7 @@ owner_of (Some h) lane = if h.group then 0 else lane
 abbrev pub owner : Setting → ℕ → ℕ
 owner setting handle = owner_of (slice_get setting.handles handle) setting.lane
 
-abbrev pub is_numbered : Option ℕ → ℕ → Bool
-is_numbered None n = false
-is_numbered (Some m) n = m == n
-
--- the last grant of a handle's lane, by its number, counted from one on
-abbrev pub latest : ℕ → ℕ → ℕ → Option ℕ → List Grant → Option ℕ
-latest handle lane at found [] = found
-latest handle lane at found (g ∷ grants) =
-    latest handle lane (suc at) (if is_numbered g.handle handle && (g.lane == lane) then Some at else found) grants
-
+-- the last grant of a handle, by its number
 abbrev pub grant_of : Setting → ℕ → State → Option ℕ
 grant_of setting handle s = latest handle (owner setting handle) 0 None s.world.grants
 

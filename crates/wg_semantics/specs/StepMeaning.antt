@@ -1,7 +1,7 @@
 -- What the steps of a statement or of a `for` header do: stores, interlocked forms and calls.
 use Rattle.std.specs.Prelude.{ℕ, ◌/◌, ◌==◌, Bool, if◌then◌else◌, List, [], ◌∷◌, map, slice_index, bit_and, bit_or, bit_xor, Option, Some, None}
 use Rattle.wg_words.specs.Words.{sum_of}
-use Rattle.wg_state.specs.Turns.{Step, ◌>>=◌, ◌>>◌, pure, read, change, all}
+use Rattle.wg_state.specs.Turns.{Action, ◌>>=◌, ◌>>◌, pure, read, change, all}
 use Rattle.wg_tree.specs.declared.expr.Scalar.{Scalar}
 use Rattle.wg_tree.specs.declared.expr.Scalar.TheVariants as scalar
 use Rattle.wg_tree.specs.declared.expr.BinaryOperator.{BinaryOperator}
@@ -26,31 +26,32 @@ use Rattle.wg_typed.specs.declared.typed_stmt.Destination.TheVariants as destina
 use Rattle.wg_typed.specs.Layout.{words_of}
 use Rattle.wg_typed.specs.Operators.{scalar_of, converted, combined, stepped, pairwise}
 use Rattle.wg_typed.specs.Intrinsics.{least, greatest}
-use Rattle.wg_semantics.specs.Places.{Setting, fetched, written, zeros}
+use Rattle.wg_semantics.specs.Places.{Setting, fetched, written}
+use Rattle.wg_state.specs.WordLists.{zeros}
 use Rattle.wg_semantics.specs.Calls.{Seen, Callee, callee_at, value_of, called}
 use Rattle.wg_semantics.specs.ExprMeaning.{seen, word_of}
 
-abbrev pub store_at : Spot → List ℕ → Step State (Unit {0})
+abbrev pub store_at : Spot → List ℕ → Action State (Unit {0})
 store_at p words = change (written p words)
 
 -- ---- assignments
 
 -- the place first, then the right side, then the store
-abbrev pub assigned : Setting → Seen → Seen → Step State (Unit {0})
+abbrev pub assigned : Setting → Seen → Seen → Action State (Unit {0})
 assigned setting target value = do
   p ← target.spot
   words ← value_of setting.structs value
   store_at p words
 
 -- the left side is read after the right side is known; the result is converted back
-abbrev pub updated : Setting → Seen → BinaryOperator → TypeTree → Seen → Step State (Unit {0})
+abbrev pub updated : Setting → Seen → BinaryOperator → TypeTree → Seen → Action State (Unit {0})
 updated setting target operator by value = do
   p ← target.spot
   right ← value_of setting.structs value
   left ← read (fetched setting.structs target.of p)
   store_at p (converted by target.of (pairwise (combined operator (scalar_of by)) (converted target.of by left) right))
 
-abbrev pub changed : Setting → Seen → StepOperator → Step State (Unit {0})
+abbrev pub changed : Setting → Seen → StepOperator → Action State (Unit {0})
 changed setting target operator = do
   p ← target.spot
   words ← read (fetched setting.structs target.of p)
@@ -60,7 +61,7 @@ changed setting target operator = do
 abbrev pub raw_word : ℕ → ℕ → Spot
 raw_word buffer address = spot.At (store.Buffer buffer) (address / 4)
 
-abbrev pub raw_stored : Setting → ℕ → Seen → Seen → Step State (Unit {0})
+abbrev pub raw_stored : Setting → ℕ → Seen → Seen → Action State (Unit {0})
 raw_stored setting buffer address value = do
   at ← word_of setting address
   words ← value_of setting.structs value
@@ -83,7 +84,7 @@ exchanged form.Exchange s old compare value = value
 exchanged form.CompareExchange s old compare value = if old == compare then value else old
 exchanged form.CompareStore s old compare value = if old == compare then value else old
 
-abbrev pub destination_of : Setting → List Callee → Destination → Step State Spot
+abbrev pub destination_of : Setting → List Callee → Destination → Action State Spot
 destination_of setting callees (destination.Scalar target) = (seen setting callees target).spot
 destination_of setting callees (destination.Raw buffer address) = do
   at ← word_of setting (seen setting callees address)
@@ -93,17 +94,17 @@ destination_of setting callees (destination.Raw buffer address) = do
 abbrev pub word_at : Spot → State → ℕ
 word_at p s = slice_index (fetched [] (type.Scalar scalar.Uint) p s) 0
 
-abbrev pub maybe_word : Setting → List Callee → Option TypedExpr → Step State ℕ
+abbrev pub maybe_word : Setting → List Callee → Option TypedExpr → Action State ℕ
 maybe_word setting callees None = pure 0
 maybe_word setting callees (Some e) = word_of setting (seen setting callees e)
 
-abbrev pub maybe_spot : Setting → List Callee → Option TypedExpr → Step State Spot
+abbrev pub maybe_spot : Setting → List Callee → Option TypedExpr → Action State Spot
 maybe_spot setting callees None = pure spot.Nowhere
 maybe_spot setting callees (Some e) = (seen setting callees e).spot
 
 -- The destination, the compared value, the value and the place of the old word, in this order; then the word is changed, and then
 -- the old one is written.
-abbrev pub interlocked : Setting → List Callee → Interlocked → Step State (Unit {0})
+abbrev pub interlocked : Setting → List Callee → Interlocked → Action State (Unit {0})
 interlocked setting callees i = do
   p ← destination_of setting callees i.destination
   compare ← maybe_word setting callees i.compare
@@ -115,7 +116,7 @@ interlocked setting callees i = do
 
 -- ---- steps
 
-abbrev pub step_does : Setting → List Callee → TypedStep → Step State (Unit {0})
+abbrev pub step_does : Setting → List Callee → TypedStep → Action State (Unit {0})
 step_does setting callees (step.Evaluate value) = value_of setting.structs (seen setting callees value) >> pure tt
 step_does setting callees (step.Call function arguments) =
     called setting.structs (callee_at callees function) (map (seen setting callees) arguments) >> pure tt
@@ -127,26 +128,26 @@ step_does setting callees (step.Store buffer address value) =
     raw_stored setting buffer (seen setting callees address) (seen setting callees value)
 step_does setting callees (step.Interlocked i) = interlocked setting callees i
 
-abbrev pub steps_do : Setting → List Callee → List TypedStep → Step State (Unit {0})
+abbrev pub steps_do : Setting → List Callee → List TypedStep → Action State (Unit {0})
 steps_do setting callees steps = all (map (step_does setting callees) steps)
 
 -- ---- declarations
 
 -- a local without a start value is zeros each time its declaration is run; own
-abbrev pub start_value : Setting → List Callee → TypeTree → Option TypedExpr → Step State (List ℕ)
+abbrev pub start_value : Setting → List Callee → TypeTree → Option TypedExpr → Action State (List ℕ)
 start_value setting callees t None = pure (zeros (words_of setting.structs t))
 start_value setting callees t (Some e) = value_of setting.structs (seen setting callees e)
 
-abbrev pub declared_as : Setting → List Callee → TypedDeclarator → Step State (Unit {0})
+abbrev pub declared_as : Setting → List Callee → TypedDeclarator → Action State (Unit {0})
 declared_as setting callees d = do
   words ← start_value setting callees d.of d.value
   store_at (spot.At (store.Local d.local) 0) words
 
-abbrev pub all_declared : Setting → List Callee → List TypedDeclarator → Step State (Unit {0})
+abbrev pub all_declared : Setting → List Callee → List TypedDeclarator → Action State (Unit {0})
 all_declared setting callees declarators = all (map (declared_as setting callees) declarators)
 
 -- what a `for` begins with
-abbrev pub started : Setting → List Callee → Option TypedStart → Step State (Unit {0})
+abbrev pub started : Setting → List Callee → Option TypedStart → Action State (Unit {0})
 started setting callees None = pure tt
 started setting callees (Some (start.Declare declarators)) = all_declared setting callees declarators
 started setting callees (Some (start.Steps steps)) = steps_do setting callees steps

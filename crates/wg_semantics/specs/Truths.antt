@@ -8,7 +8,7 @@ use Rattle.wg_typed.specs.declared.typed.TypedStruct.{TypedStruct}
 use Rattle.wg_typed.specs.Layout.{field_types}
 use Rattle.wg_typed.specs.declared.types.ElementType.{ElementType}
 use Rattle.wg_typed.specs.declared.types.ElementType.TheVariants as element
-use Rattle.wg_typed.specs.Operators.{is_true, truth}
+use Rattle.wg_words.specs.Truth.{is_true, truth}
 
 abbrev pub is_bool : Scalar → Bool
 is_bool scalar.Bool = true

@@ -3,6 +3,4 @@
 
 mod state;
 
-pub use state::{
-    Flow, Frame, Group, Lane, Launched, NodeUnit, Passed, SentRecord, Spot, State, Store,
-};
+pub use state::{Body, Flow, Frame, Lane, Passed, Spot, State, Store};

@@ -1,5 +1,5 @@
-use wg_state::{Sender, World};
-use wg_words::{Items, Word, WordLists, Words};
+use wg_state::World;
+use wg_words::{Word, WordLists, Words};
 
 /// The values of a function's parameters and locals, each by its words.
 #[derive(Debug, Drop)]
@@ -57,35 +57,9 @@ pub enum Flow {
     Returned { words: Words },
 }
 
-/// A node at one recursion level: its function, its threads x y z, its budgets and its outputs.
-#[derive(Debug, Drop)]
-pub struct NodeUnit {
+/// The body of a node of a shape: the number of its function in the text, and its `NumThreads`.
+#[derive(Clone, Copy, Debug, PartialEq, Eq)]
+pub struct Body {
     pub function: u32,
     pub threads: [Word; 3],
-    pub level: u32,
-    pub budgets: Words,
-    pub outputs: Items<Sender>,
-}
-
-/// A thread group, by its coordinates, with the words of its records.
-#[derive(Debug, Drop)]
-pub struct Group {
-    pub at: [Word; 3],
-    pub records: WordLists,
-}
-
-/// A record that a launch sends, for a unit.
-#[derive(Debug, Drop)]
-pub struct SentRecord {
-    pub unit: u32,
-    pub words: Words,
-}
-
-/// What a launch that is not spent did.
-#[derive(Debug, Drop)]
-pub struct Launched {
-    pub sent: Items<SentRecord>,
-    pub denied: u64,
-    pub turns: u64,
-    pub buffers: WordLists,
 }

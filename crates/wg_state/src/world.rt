@@ -1,8 +1,16 @@
 use wg_words::{Items, WordLists, Words};
 
-/// The records that a request was granted: its output and element, and the words of each record.
-///
-/// An increment has no handle. A group request's lane is 0. `complete` tells that the handle is closed.
+/// Who asks for how many records, and where: an increment has no handle, and a group request's lane is 0.
+#[derive(Clone, Copy, Debug, PartialEq, Eq)]
+pub struct Request {
+    pub handle: Option<u32>,
+    pub lane: u32,
+    pub output: u32,
+    pub element: u32,
+    pub amount: u32,
+}
+
+/// What a request was granted: who asked for it and where, the words of each record, and whether its handle is closed.
 #[derive(Debug, Drop)]
 pub struct Grant {
     pub handle: Option<u32>,
@@ -21,14 +29,6 @@ pub struct World {
     pub inputs: WordLists,
     pub grants: Items<Grant>,
     pub left: Words,
-    pub denied: u64,
+    pub denied: u32,
     pub buffers: WordLists,
-}
-
-/// An output of a unit: its budget, the words of its records, and the unit to which each element sends, if any.
-#[derive(Debug, Drop)]
-pub struct Sender {
-    pub budget: u32,
-    pub words: u32,
-    pub targets: Items<Option<u32>>,
 }

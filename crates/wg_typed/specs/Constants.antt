@@ -3,7 +3,8 @@ use Rattle.std.specs.Prelude.{ℕ, Bool, true, false, ◌&&◌, ◌||◌, not, n
 use Rattle.std.specs.Global.{Vec}
 use Rattle.std.specs.Str.{bytes_eq}
 use Rattle.wg_typed.specs.declared.types.ConstValue.{ConstValue}
-use Rattle.wg_typed.specs.Operators.{is_true, combined, prefixed}
+use Rattle.wg_typed.specs.Operators.{combined, prefixed}
+use Rattle.wg_words.specs.Truth.{is_true}
 use Rattle.wg_tree.specs.declared.expr.Scalar.{Scalar}
 use Rattle.wg_tree.specs.declared.expr.Scalar.TheVariants as scalar
 use Rattle.wg_tree.specs.declared.expr.PrefixOperator.{PrefixOperator}

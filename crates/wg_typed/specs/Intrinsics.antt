@@ -4,7 +4,8 @@ use Rattle.wg_words.specs.Words.{sum_of, difference, product_of, set_bits, first
 use Rattle.wg_tree.specs.declared.expr.Scalar.{Scalar}
 use Rattle.wg_typed.specs.declared.typed_expr.Intrinsic.{Intrinsic}
 use Rattle.wg_typed.specs.declared.typed_expr.Intrinsic.TheVariants as intrinsic
-use Rattle.wg_typed.specs.Operators.{width_of, is_true, truth, is_less, pairwise}
+use Rattle.wg_typed.specs.Operators.{width_of, is_less, pairwise}
+use Rattle.wg_words.specs.Truth.{is_true, truth}
 
 abbrev pub least : Scalar → ℕ → ℕ → ℕ
 least s a b = if is_less s b a then b else a

@@ -1,7 +1,6 @@
 -- Conversions and operators on values of scalars and vectors, each the list of its components' words (HLSL Shader Model 6.8).
 use Rattle.std.specs.Prelude.{ℕ, ◌-◌, ◌==◌, Bool, true, false, not, ◌&&◌, ◌||◌, if◌then◌else◌, List, [], ◌∷◌, map, replicate, slice_index, bit_and, bit_or, bit_xor}
-use Rattle.std.specs.declared.cmp.Ordering.{Ordering}
-use Rattle.std.specs.declared.cmp.Ordering.TheVariants as order
+use Rattle.wg_words.specs.Truth.{is_true, truth, is_less_order}
 use Rattle.wg_words.specs.Words.{all_ones, sum_of, difference, product_of, quotient_u, quotient_s, remainder_u, remainder_s, shifted_left, shifted_right_u, shifted_right_s, order_u, order_s}
 use Rattle.wg_tree.specs.declared.expr.Scalar.{Scalar}
 use Rattle.wg_tree.specs.declared.expr.Scalar.TheVariants as scalar
@@ -32,13 +31,6 @@ is_signed scalar.Bool = false
 is_signed scalar.Int = true
 is_signed scalar.Uint = false
 
--- a word is true where it is not 0
-abbrev pub is_true : ℕ → Bool
-is_true word = not (word == 0)
-
-abbrev pub truth : Bool → ℕ
-truth b = if b then 1 else 0
-
 -- ---- conversions
 
 -- a scalar's word as one of another scalar: `bool` is 0 or 1, `int` and `uint` have the same words
@@ -60,11 +52,6 @@ converted from (type.Struct number) words = words
 converted from (type.Array of size) words = words
 
 -- ---- operators on the words of a scalar
-
-abbrev pub is_less_order : Ordering → Bool
-is_less_order order.Less = true
-is_less_order order.Equal = false
-is_less_order order.Greater = false
 
 abbrev pub is_less : Scalar → ℕ → ℕ → Bool
 is_less s a b = is_less_order (if is_signed s then order_s (width_of s) a b else order_u a b)

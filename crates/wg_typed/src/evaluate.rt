@@ -1,6 +1,7 @@
 ghost use Rattle.std.specs.Prelude.{◌≡◌, true, if◌then◌else◌};
 ghost use Rattle.wg_typed.specs.Constants.{number, integer, prefixed_number, combined_value, is_taken_signed, applied, chosen, const_value, known_in, chain_value, rights_of};
-ghost use Rattle.wg_typed.specs.Operators.{truth, is_less};
+ghost use Rattle.wg_typed.specs.Operators.{is_less};
+ghost use Rattle.wg_words.specs.Truth.{truth};
 ghost use Rattle.wg_words.specs.Words.{quotient_s, quotient_u, remainder_s, remainder_u, shifted_right_s, shifted_right_u};
 
 use crate::constants::Constants;

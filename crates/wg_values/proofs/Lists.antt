@@ -3,14 +3,16 @@ use Rattle.std.proofs.Common.{◌≡◌, ℕ, zero, suc, ◌+◌, ◌<◌, ◌�
 use Rattle.std.specs.Prelude.{slice_index, slice_set, min, if◌then◌else◌, map, ◌≢◌}
 use Rattle.std.proofs.lemmas.Option.{slice_get-get_or, slice_get_past}
 use Rattle.wg_state.specs.declared.world.Grant.{Grant}
-use Rattle.wg_semantics.specs.Places.{words_from, over_written, list_at, with_item, Setting, fetched, part_at}
+use Rattle.wg_semantics.specs.Places.{words_from, over_written, with_item, Setting, fetched, part_at}
+use Rattle.wg_state.specs.WordLists.{list_at}
 use Rattle.wg_semantics.specs.declared.state.State.{State}
 use Rattle.wg_semantics.specs.declared.state.Spot.{Spot}
 use Rattle.wg_semantics.specs.declared.state.Spot.TheVariants as spot
 use Rattle.wg_typed.specs.declared.types.TypeTree.{TypeTree}
 use Rattle.wg_state.specs.Turns.{Done}
 use Rattle.wg_semantics.specs.ExprMeaning.{components_of}
-use Rattle.wg_typed.specs.Operators.{pairwise, is_true}
+use Rattle.wg_typed.specs.Operators.{pairwise}
+use Rattle.wg_words.specs.Truth.{is_true}
 use Rattle.wg_typed.specs.Intrinsics.{selected}
 
 pub words_from_last : (words : List ℕ) (from i : ℕ) → words_from words from (i + 1) ≡ words_from words from i ++ slice_index words (from + i) ∷ []

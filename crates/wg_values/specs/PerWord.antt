@@ -4,7 +4,8 @@ use Rattle.wg_words.specs.Words.{sum_of, product_of, set_bits, first_bit_high, f
 use Rattle.wg_tree.specs.declared.expr.Scalar.{Scalar}
 use Rattle.wg_typed.specs.declared.typed_expr.Intrinsic.{Intrinsic}
 use Rattle.wg_typed.specs.declared.typed_expr.Intrinsic.TheVariants as intrinsic
-use Rattle.wg_typed.specs.Operators.{width_of, is_true, truth}
+use Rattle.wg_typed.specs.Operators.{width_of}
+use Rattle.wg_words.specs.Truth.{is_true, truth}
 use Rattle.wg_typed.specs.Intrinsics.{least, greatest, absolute}
 
 abbrev pub one_word : Intrinsic → Scalar → ℕ → ℕ

@@ -1,7 +1,7 @@
 -- Parts of values as the program keeps them.
 use Rattle.std.specs.Prelude.{ℕ, Bool, false, if◌then◌else◌, List, slice_get, unwrap_or}
 use Rattle.wg_typed.specs.Layout.{Range}
-use Rattle.wg_typed.specs.Operators.{is_true, truth}
+use Rattle.wg_words.specs.Truth.{is_true, truth}
 use Rattle.wg_semantics.specs.Places.{Setting}
 use Rattle.wg_values.specs.declared.structs.Piece.{Piece}
 use Rattle.wg_values.specs.declared.place.Setting.{Setting as Given}

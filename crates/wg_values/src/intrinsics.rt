@@ -1,5 +1,6 @@
 ghost use Rattle.std.specs.Prelude.{◌≡◌, IfOk, if◌then◌else◌, map};
-ghost use Rattle.wg_typed.specs.Operators.{is_true, pairwise};
+ghost use Rattle.wg_typed.specs.Operators.{pairwise};
+ghost use Rattle.wg_words.specs.Truth.{is_true};
 ghost use Rattle.wg_typed.specs.Intrinsics.{least, greatest, absolute, is_any_true, are_all_true, selected, argument, called_with};
 ghost use Rattle.wg_values.specs.PerWord.{one_word, two_words};
 

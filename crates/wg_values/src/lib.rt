@@ -18,7 +18,7 @@ pub use place::{
     Setting, buffer_place, components, element, fetch, grant, handle_place, input_place, part,
     raw_words, write,
 };
-pub use requests::{Request, ask, close, target};
+pub use requests::{ask, close, target};
 pub use structs::{Piece, Structs, field_piece};
 pub use words::{put_all, word_at, zero_words};
 pub use zeros::{fresh, parameter_size, zero_value};

@@ -1,5 +1,6 @@
 ghost use Rattle.std.specs.Prelude.{◌≡◌, IfOk, if◌then◌else◌, map, replicate};
-ghost use Rattle.wg_typed.specs.Operators.{scalar_of, is_signed, truth, converted_word, converted, filled, is_less, combined, prefixed, stepped, pairwise};
+ghost use Rattle.wg_typed.specs.Operators.{scalar_of, is_signed, converted_word, converted, filled, is_less, combined, prefixed, stepped, pairwise};
+ghost use Rattle.wg_words.specs.Truth.{truth};
 ghost use Rattle.wg_words.specs.Words.{quotient_s, quotient_u, remainder_s, remainder_u, shifted_right_s, shifted_right_u};
 
 use crate::words::word_at;

@@ -1,6 +1,8 @@
 ghost use Rattle.std.specs.Prelude.{◌≡◌, ℕ, ◌+◌, ◌*◌, ◌/◌, IfOk, slice_get, slice_set, if◌then◌else◌, Some, None};
 ghost use Rattle.wg_typed.specs.Layout.{words_in, words_of};
-ghost use Rattle.wg_semantics.specs.Places.{words_from, over_written, list_at, items_in, with_item, stored, fetched, written, part_at, element_at, buffer_element, input_record, granted_record, as_read, owner, latest, is_numbered, grant_of, handle_record};
+ghost use Rattle.wg_semantics.specs.Places.{words_from, over_written, items_in, with_item, stored, fetched, written, part_at, element_at, buffer_element, input_record, granted_record, as_read, owner, grant_of, handle_record};
+ghost use Rattle.wg_state.specs.Requests.{latest, is_numbered};
+ghost use Rattle.wg_state.specs.WordLists.{list_at};
 ghost use Rattle.wg_state.specs.Turns.{Done};
 ghost use Rattle.wg_semantics.specs.ExprMeaning.{components_of};
 ghost use Rattle.wg_semantics.specs.declared.state.Spot.TheVariants as spot;
@@ -12,7 +14,8 @@ use crate::words::{cut, pick, write_over, zero_words};
 use std::alloc::{AllocError, Global};
 use std::mem;
 use wg_semantics::{Spot, State, Store};
-use wg_state::{Grant, Sender};
+use wg_machine::Output;
+use wg_state::Grant;
 use wg_typed::{TypeTree, TypedFunction, TypedHandle};
 use wg_words::{Items, Word, WordLists, Words};
 
@@ -22,7 +25,7 @@ pub struct Setting<'a> {
     pub alloc: Global,
     pub structs: &'a Structs<'a>,
     pub handles: &'a [TypedHandle],
-    pub outputs: &'a [Sender],
+    pub outputs: &'a [Output],
     pub level: u32,
     pub lane: u32,
     pub earlier: &'a [TypedFunction],

@@ -1,38 +1,28 @@
 ghost use Rattle.std.specs.Prelude.{◌≡◌, ◌≤◌, IfOk, OnOk, replicate, slice_get, slice_index};
-ghost use Rattle.wg_semantics.specs.Places.{zeros};
-ghost use Rattle.wg_state.specs.Requests.{target_of, budget_of, record_words, requested, whole_or_none, with_grant, taken, denied_once, closed, closed_in, is_granted};
-ghost use Rattle.wg_values.specs.Asked.{request_of};
+ghost use Rattle.wg_state.specs.WordLists.{zeros};
+ghost use Rattle.wg_state.specs.Requests.{target_of, budget_of, record_words, requested, whole_or_none, with_grant, budget_taken, denied_once, closed, closed_in, is_granted};
 
 use crate::words::{set_word, word_at, zero_words};
 use std::alloc::{AllocError, Global};
 use std::mem;
-use wg_state::{Grant, Sender, World};
+use wg_machine::Output;
+use wg_state::{Grant, Request, World};
 use wg_words::{Items, WordLists, Words};
 
-/// Who asks for how many records, and where.
-#[derive(Clone, Copy)]
-pub struct Request {
-    pub handle: Option<u32>,
-    pub lane: u32,
-    pub output: u32,
-    pub element: u32,
-    pub amount: u32,
-}
-
 /// The unit to which an element of an output sends, if any.
-pub fn target(outputs: &[Sender], output: u32, element: u32) -> Option<u32>
+pub fn target(outputs: &[Output], output: u32, element: u32) -> Option<u32>
     ensures { result ≡ target_of outputs.now output element }
 {
     match outputs.get(output as usize) {
         None => None,
-        Some(o) => match o.targets.get(element as usize) {
+        Some(o) => match o.elements.get(element as usize) {
             None => None,
             Some(target) => *target,
         },
     }
 }
 
-fn budget(outputs: &[Sender], output: u32) -> u32
+fn budget(outputs: &[Output], output: u32) -> u32
     ensures { result ≡ budget_of (slice_get outputs.now output) }
 {
     match outputs.get(output as usize) {
@@ -41,7 +31,7 @@ fn budget(outputs: &[Sender], output: u32) -> u32
     }
 }
 
-fn words_each(outputs: &[Sender], output: u32) -> u32
+fn words_each(outputs: &[Output], output: u32) -> u32
     ensures { result ≡ record_words (slice_get outputs.now output) }
 {
     match outputs.get(output as usize) {
@@ -62,12 +52,12 @@ fn zero_records(alloc: Global, count: u32, words: u32) -> Result<WordLists, Allo
 
 fn add_grant(
     alloc: Global,
-    outputs: &[Sender],
+    outputs: &[Output],
     request: Request,
     count: u32,
     world: &mut World,
 ) -> Result<(), AllocError>
-    ensures { OnOk result (world.new ≡ with_grant outputs.now (request_of request) count world.old) }
+    ensures { OnOk result (world.new ≡ with_grant outputs.now request count world.old) }
 {
     let items = zero_records(alloc, count, words_each(outputs, request.output))?;
     world.grants.push(Grant {
@@ -80,8 +70,8 @@ fn add_grant(
     })
 }
 
-fn can_grant(outputs: &[Sender], request: Request, world: &World) -> bool
-    ensures { result ≡ is_granted outputs.now (request_of request) world.now }
+fn can_grant(outputs: &[Output], request: Request, world: &World) -> bool
+    ensures { result ≡ is_granted outputs.now request world.now }
 {
     match target(outputs, request.output, request.element) {
         None => false,
@@ -96,7 +86,7 @@ fn can_grant(outputs: &[Sender], request: Request, world: &World) -> bool
 /// Takes so many from a budget that has them.
 fn take(alloc: Global, budget: u32, count: u32, world: &mut World)
     requires { count ≤ slice_index world.old.left budget }
-    ensures { world.new ≡ taken budget count world.old }
+    ensures { world.new ≡ budget_taken budget count world.old }
 {
     let rest = word_at(world.left.as_slice(), u64::from(budget)) - count;
     let mut left = mem::replace(&mut world.left, Words::new(alloc)).into_vec();
@@ -118,11 +108,11 @@ fn deny(world: &mut World) -> Result<(), AllocError>
 
 fn ask_some(
     alloc: Global,
-    outputs: &[Sender],
+    outputs: &[Output],
     request: Request,
     world: &mut World,
 ) -> Result<(), AllocError>
-    ensures { OnOk result (world.new ≡ whole_or_none outputs.now (request_of request) world.old) }
+    ensures { OnOk result (world.new ≡ whole_or_none outputs.now request world.old) }
 {
     if can_grant(outputs, request, world) {
         take(
@@ -141,11 +131,11 @@ fn ask_some(
 /// Grants a request whole, or not at all.
 pub fn ask(
     alloc: Global,
-    outputs: &[Sender],
+    outputs: &[Output],
     request: Request,
     world: &mut World,
 ) -> Result<(), AllocError>
-    ensures { OnOk result (world.new ≡ requested outputs.now (request_of request) world.old) }
+    ensures { OnOk result (world.new ≡ requested outputs.now request world.old) }
 {
     if request.amount == 0 {
         add_grant(alloc, outputs, request, 0, world)

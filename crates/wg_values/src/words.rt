@@ -1,5 +1,6 @@
 ghost use Rattle.std.specs.Prelude.{◌≡◌, ◌+◌, ◌++◌, IfOk, OnOk, map, slice_index, slice_set};
-ghost use Rattle.wg_semantics.specs.Places.{words_from, over_written, zeros};
+ghost use Rattle.wg_semantics.specs.Places.{words_from, over_written};
+ghost use Rattle.wg_state.specs.WordLists.{zeros};
 ghost use Rattle.wg_typed.specs.Layout.{put};
 
 use std::alloc::{AllocError, Global};

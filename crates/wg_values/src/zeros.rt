@@ -2,7 +2,7 @@ ghost use Rattle.std.specs.Prelude.{◌≡◌, IfOk};
 ghost use Rattle.wg_semantics.specs.Calls.{parameter_words};
 ghost use Rattle.wg_semantics.specs.FunctionMeaning.{fresh_locals};
 ghost use Rattle.wg_typed.specs.Layout.{words_of};
-ghost use Rattle.wg_semantics.specs.Places.{zeros};
+ghost use Rattle.wg_state.specs.WordLists.{zeros};
 
 use crate::structs::Structs;
 use crate::words::zero_words;

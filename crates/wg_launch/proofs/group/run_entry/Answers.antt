@@ -1,5 +1,6 @@
 use Rattle.std.proofs.Common.{ap, sym, ◌∙◌, subst, refl}
-use Rattle.wg_semantics.specs.LaunchMeaning.{entry_bodies, phases_run, phases_of, first_lanes, first_frame, lanes_in, launched as after}
+use Rattle.wg_semantics.specs.LaunchMeaning.{entry_bodies, phases_run, phases_of, first_lanes, first_frame, launched as after}
+use Rattle.wg_state.specs.Lanes.{lanes_in}
 use Rattle.wg_state.specs.Turns.{Done}
 use Rattle.wg_meaning.specs.Says.{Stops}
 use Rattle.wg_launch.proofs.LaneRuns.{launch_stops}

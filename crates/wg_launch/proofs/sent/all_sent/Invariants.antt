@@ -1,5 +1,5 @@
 use Rattle.std.proofs.Common.{◌≡◌, ◌++◌, drop}
-use Rattle.wg_semantics.specs.LaunchMeaning.{sent_through}
+use Rattle.wg_state.specs.Sending.{sent_through}
 use Rattle.wg_launch.proofs.sent.all_sent.Given as goal
 
 abbrev pub invariant-loop-output : goal.invariant-loop-output

@@ -1,5 +1,5 @@
 use Rattle.std.proofs.Common.{◌≡◌, ◌++◌, drop}
-use Rattle.wg_semantics.specs.LaunchMeaning.{sent_from}
+use Rattle.wg_state.specs.Sending.{sent_from}
 use Rattle.wg_launch.proofs.sent.send_from.Given as goal
 
 abbrev pub invariant-loop-element : goal.invariant-loop-element

@@ -1,5 +1,5 @@
 use Rattle.std.proofs.Common.{◌≡◌, ◌++◌, drop}
-use Rattle.wg_semantics.specs.LaunchMeaning.{sent_to}
+use Rattle.wg_state.specs.Sending.{sent_to}
 use Rattle.wg_launch.proofs.sent.send_to.Given as goal
 
 abbrev pub invariant-loop-g : goal.invariant-loop-g

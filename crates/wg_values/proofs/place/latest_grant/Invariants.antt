@@ -1,6 +1,6 @@
 use Rattle.std.proofs.Common.{◌≡◌, drop}
 use Rattle.std.specs.Prelude.{None}
-use Rattle.wg_semantics.specs.Places.{latest}
+use Rattle.wg_state.specs.Requests.{latest}
 use Rattle.wg_values.proofs.place.latest_grant.Given as goal
 
 abbrev pub invariant-loop-at : goal.invariant-loop-at

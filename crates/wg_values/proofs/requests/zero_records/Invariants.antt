@@ -1,5 +1,5 @@
 use Rattle.std.proofs.Common.{◌≡◌, replicate}
-use Rattle.wg_semantics.specs.Places.{zeros}
+use Rattle.wg_state.specs.WordLists.{zeros}
 use Rattle.wg_values.proofs.requests.zero_records.Given as goal
 
 abbrev pub invariant-loop-i : goal.invariant-loop-i

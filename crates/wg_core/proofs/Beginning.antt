@@ -1,6 +1,6 @@
 -- A core at the start of a script is sound.
 use Rattle.std.proofs.Common.{◌≡◌, ℕ, zero, suc, ◌+◌, ◌≤◌, false, List, [], ◌∷◌, length, refl, ap, sym, ◌∙◌, subst, arith, None}
-use Rattle.std.specs.Prelude.{filter, nat_le, replicate}
+use Rattle.std.specs.Prelude.{filter, nat_le, replicate, slice_index}
 use Rattle.std.specs.List.{flat_map}
 use Rattle.std.proofs.lemmas.Bool.Decides.{nat_tests}
 use Rattle.wg_words.specs.Each.{Each}
@@ -11,13 +11,21 @@ use Rattle.wg_machine.specs.declared.launch.Sent.{Sent}
 use Rattle.wg_machine.specs.GoodShape.{IsGoodShape}
 use Rattle.wg_machine.specs.LaunchMeaning.{Arrives}
 use Rattle.wg_machine.specs.State.{born, kept}
-use Rattle.wg_core.specs.Core.{CoreView, begun}
-use Rattle.wg_core.specs.Inside.{IsSound, is_in_slot, now_of}
-use Rattle.wg_core.specs.Standing.{Rises, by_unit}
-use Rattle.wg_core.specs.Store.{AllThread, kept_begun, thread_born}
-use Rattle.wg_core.proofs.Begun.{below, begun_placed, zero_at}
-use Rattle.wg_core.proofs.Rising.{rises_born, rises_kept}
+use Rattle.wg_standing.specs.Core.{CoreView, core_begun}
+use Rattle.wg_core.specs.Inside.{IsSoundCore, is_in_slot, view_of}
+use Rattle.wg_standing.specs.Standing.{Rises, by_unit}
+use Rattle.wg_standing.specs.Laws.{BeginningsPlace}
+use Rattle.wg_core.specs.Store.{AllThread, begun_store, thread_born}
 use Rattle.wg_core.proofs.Threads.{born_is}
+
+below : (lo end : ℕ) (xs : List Live) → Rises lo xs end → lo ≤ end
+below lo end [] r = r
+below lo end (x ∷ xs) r = let a = r.0 in let b = below (x.number + 1) end xs r.1 in omega (arith, a, b)
+
+zero_at : (n v : ℕ) → slice_index (replicate n 0) v ≡ 0
+zero_at zero v = refl
+zero_at (suc n) zero = refl
+zero_at (suc n) (suc v) = zero_at n v
 
 none_later : (handed lo : ℕ) (xs : List Live) → Rises lo xs handed → filter (is_in_slot handed) xs ≡ []
 none_later handed lo [] r = refl
@@ -30,20 +38,19 @@ nothing_waits : (handed v n : ℕ) → by_unit handed v n [] ≡ replicate n []
 nothing_waits handed v zero = refl
 nothing_waits handed v (suc n) = ap (λ (rest : List (List Live)). [] ∷ rest) (nothing_waits handed (v + 1) n)
 
-pub begun_view : (shape : Shape) (width : ℕ) (limits : Limits) (script : List Sent) → AllThread shape → now_of (kept_begun shape width script) limits [] (length script) [] 0 0 0 None ≡ begun shape width limits script []
+pub begun_view : (shape : Shape) (width : ℕ) (limits : Limits) (script : List Sent) → AllThread shape → view_of (begun_store shape width script) limits [] (length script) [] 0 0 0 None ≡ core_begun shape width limits script []
 begun_view shape width limits script threads =
-    ap (λ (ws : List (List Live)). (let c : CoreView = record (begun shape width limits script []) { waits = ws; entries = thread_born 0 script } in c)) (nothing_waits (length script) 0 (length shape.units))
-    ∙ ap (λ (es : List Live). (let c : CoreView = record (begun shape width limits script []) { entries = es } in c)) (sym (born_is shape threads 0 script))
+    ap (λ (ws : List (List Live)). (let c : CoreView = record (core_begun shape width limits script []) { waits = ws; entries = thread_born 0 script } in c)) (nothing_waits (length script) 0 (length shape.units))
+    ∙ ap (λ (es : List Live). (let c : CoreView = record (core_begun shape width limits script []) { entries = es } in c)) (sym (born_is shape threads 0 script))
 
-pub begun_sound : (shape : Shape) (width : ℕ) (limits : Limits) (script : List Sent) (places : ℕ) → IsGoodShape shape → AllThread shape → 1 ≤ width → Each (Arrives shape) script → length script ≤ 1000000 → limits.launches ≤ 10000000 → IsSound (kept_begun shape width script) (now_of (kept_begun shape width script) limits [] (length script) [] 0 0 0 None) places
-begun_sound shape width limits script places good threads wide arrive few launches =
+pub begun_sound : BeginningsPlace → (shape : Shape) (width : ℕ) (limits : Limits) (script : List Sent) (places : ℕ) → IsGoodShape shape → AllThread shape → 1 ≤ width → Each (Arrives shape) script → length script ≤ 1000000 → limits.launches ≤ 10000000 → IsSoundCore (begun_store shape width script) (view_of (begun_store shape width script) limits [] (length script) [] 0 0 0 None) places
+begun_sound law shape width limits script places good threads wide arrive few launches =
     let bag = flat_map kept (born shape 0 script) in
-    let e : 0 + length script ≡ length script = omega arith in
-    let rises : Rises 0 bag (length script) = subst (Rises 0 bag) e (rises_kept 0 (0 + length script) (born shape 0 script) (rises_born shape 0 script)) in
-    let sound : IsSound (kept_begun shape width script) (begun shape width limits script []) places = record {
+    let placed = law shape width limits script [] arrive in
+    let sound : IsSoundCore (begun_store shape width script) (core_begun shape width limits script []) places = record {
       bag = bag;
-      placed = begun_placed shape width limits script [] arrive;
-      waiting = sym (none_later (length script) 0 bag rises);
+      placed = placed;
+      waiting = sym (none_later (length script) 0 bag placed.rises);
       reserves = λ v. zero_at (length shape.units) v;
       good = good;
       threads = threads;
@@ -55,4 +62,4 @@ begun_sound shape width limits script places good threads wide arrive few launch
       spent = tt;
       spare = omega arith;
     } in
-    subst (λ (c : CoreView). IsSound (kept_begun shape width script) c places) (sym (begun_view shape width limits script threads)) sound
+    subst (λ (c : CoreView). IsSoundCore (begun_store shape width script) c places) (sym (begun_view shape width limits script threads)) sound

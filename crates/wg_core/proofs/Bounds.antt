@@ -1,7 +1,6 @@
 -- Bounds of needs, of what a launch sends, and of bytes, in a good shape.
-use Rattle.std.proofs.Common.{◌≡◌, ℕ, zero, suc, ◌+◌, ◌*◌, ◌<◌, ◌≤◌, Bool, true, false, ◌||◌, List, [], ◌∷◌, length, map, refl, ap, ◌∙◌, subst, arith, Option, None, Some, unwrap_or, length-append}
+use Rattle.std.proofs.Common.{◌≡◌, ℕ, zero, suc, ◌+◌, ◌*◌, ◌<◌, ◌≤◌, Bool, true, false, ◌||◌, List, [], ◌∷◌, length, map, refl, ap, ◌∙◌, subst, arith, Some, length-append}
 use Rattle.std.specs.Prelude.{◌==◌, ◌&&◌, nat_le, slice_get, slice_index, slice_index_or, sum_by, count_by, Contains}
-use Rattle.std.specs.Option.{option_map}
 use Rattle.std.specs.List.{list_any}
 use Rattle.std.proofs.lemmas.Bool.Decides.{nat_tests}
 use Rattle.std.proofs.lemmas.List.Sums.{sum_by-cons}
@@ -13,9 +12,8 @@ use Rattle.wg_machine.specs.declared.launch.Sent.{Sent}
 use Rattle.wg_machine.specs.GoodShape.{IsGoodShape, IsBetween}
 use Rattle.wg_machine.specs.LaunchMeaning.{AllGoThrough, KeepsBudgets}
 use Rattle.wg_machine.specs.Need.{is_target, reaches, need_from, need_of, greatest, most}
-use Rattle.wg_machine.specs.Units.{stride_at}
 use Rattle.wg_machine.specs.Unrolling.{levels, unrolled, node_and_level}
-use Rattle.wg_core.proofs.Counting.{count_cons, pay}
+use Rattle.wg_core.proofs.Lists.{count_cons, pay}
 
 -- a fact of each element at its place is one of each
 pub each_at : {X : Type 0} → (P : X → Type 0) (xs : List X) → ((k : ℕ) (x : X) → slice_get xs k ≡ Some x → P x) → Each P xs

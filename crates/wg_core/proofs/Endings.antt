@@ -4,19 +4,21 @@ use Rattle.std.specs.Prelude.{◌==◌, ◌&&◌, filter, slice_get, nat_le, IfS
 use Rattle.std.proofs.lemmas.Bool.Decides.{nat_tests}
 use Rattle.wg_words.specs.Each.{Each}
 use Rattle.wg_machine.specs.declared.launch.Live.{Live}
-use Rattle.wg_core.specs.declared.pending.Pending.{Pending}
+use Rattle.wg_standing.specs.declared.pending.Pending.{Pending}
 use Rattle.wg_core.specs.declared.report.End.{End}
 use Rattle.wg_core.specs.declared.report.End.TheVariants as ended
 use Rattle.wg_core.specs.declared.store.Place.{Place}
 use Rattle.wg_core.specs.declared.store.Place.TheVariants.{Waiting, Entry}
-use Rattle.wg_core.specs.Core.{CoreView}
+use Rattle.wg_standing.specs.Core.{CoreView}
 use Rattle.wg_core.specs.Ending.{EndIs}
-use Rattle.wg_core.specs.Inside.{IsSound}
-use Rattle.wg_core.specs.Standing.{IsNotOut, by_unit, in_slot}
-use Rattle.wg_core.specs.Store.{Chooses, IsBare, Kept, KeptHasRoom, record_at}
-use Rattle.wg_core.specs.Choice.{first_unit}
-use Rattle.wg_core.specs.Tables.{Ends, IsIdle, SomeIsOut}
-use Rattle.wg_core.proofs.Blocks.{by_unit_at}
+use Rattle.wg_core.specs.Inside.{IsSoundCore}
+use Rattle.wg_standing.specs.Standing.{IsNotOut, by_unit, in_slot}
+use Rattle.wg_core.specs.Store.{Chooses, IsBare, StoreView, StoreHasRoom, record_at}
+use Rattle.wg_standing.specs.Choice.{first_unit}
+use Rattle.wg_core.specs.Tables.{EndsAs}
+use Rattle.wg_standing.specs.Idle.{IsIdle, SomeIsOut}
+use Rattle.wg_core.proofs.Lists.{by_unit_at}
+use Rattle.wg_standing.specs.Laws.{UnopenedIsWhole}
 use Rattle.wg_core.proofs.Bounds.{at_each}
 use Rattle.wg_core.proofs.Openings.{Rest, lists_of, seen}
 use Rattle.wg_core.proofs.Settlings.{parted}
@@ -26,7 +28,7 @@ none_wait handed v zero = tt
 none_wait handed v (suc n) = (refl, none_wait handed (v + 1) n)
 
 -- a bare store with nothing out is idle
-pub idle_of : (k : Kept) (r : Rest) → r.outs ≡ [] → IsBare k → IsIdle (seen k r)
+pub idle_of : (k : StoreView) (r : Rest) → r.outs ≡ [] → IsBare k → IsIdle (seen k r)
 idle_of k r none bare =
     record {
       waits = subst (λ (ws : List Live). Each (λ (xs : List Live). xs ≡ []) (by_unit k.handed 0 (length k.shape.units) ws)) (sym bare.waiting) (none_wait k.handed 0 (length k.shape.units));
@@ -43,13 +45,13 @@ self_eq : (n : ℕ) → (n == n) ≡ true
 self_eq n = grind (arith, nat_tests)
 
 -- an idle core has a bare store
-pub bare_of_idle : (k : Kept) (r : Rest) (places : ℕ) → IsSound k (seen k r) places → IsIdle (seen k r) → IsBare k
-bare_of_idle k r places s idle = record { waiting = go k.waiting refl; entries = idle.entries }
+pub bare_of_idle : UnopenedIsWhole → (k : StoreView) (r : Rest) (places : ℕ) → IsSoundCore k (seen k r) places → IsIdle (seen k r) → IsBare k
+bare_of_idle law k r places s idle = record { waiting = go k.waiting refl; entries = idle.entries }
   where
     go : (xs : List Live) → k.waiting ≡ xs → k.waiting ≡ []
     go [] e = e
     go (x ∷ xs) e =
-        let l = lists_of k r places s in
+        let l = lists_of law k r places s in
         let known = subst (Each (λ (y : Live). y.unit < length k.shape.units)) e l.waiting_known in
         let later = subst (Each (λ (y : Live). nat_le k.handed y.number ≡ true)) e l.waiting_later in
         let z : 0 + x.unit ≡ x.unit = omega arith in
@@ -61,20 +63,20 @@ bare_of_idle k r places s idle = record { waiting = go k.waiting refl; entries =
         absurd (omega (arith, long, some))
 
 -- the record to open next is of a unit of the shape, which has room
-pub known_at : (k : Kept) (r : Rest) (places : ℕ) (place : Place) (x : Live) → IsSound k (seen k r) places → record_at k place ≡ Some x → x.unit < length k.shape.units
-known_at k r places (Waiting at) x s e = at_each (λ (y : Live). y.unit < length k.shape.units) k.waiting (lists_of k r places s).waiting_known at x e
-known_at k r places Entry x s e = at_each (λ (y : Live). y.unit < length k.shape.units) k.entries (lists_of k r places s).entries_known 0 x e
+pub known_at : UnopenedIsWhole → (k : StoreView) (r : Rest) (places : ℕ) (place : Place) (x : Live) → IsSoundCore k (seen k r) places → record_at k place ≡ Some x → x.unit < length k.shape.units
+known_at law k r places (Waiting at) x s e = at_each (λ (y : Live). y.unit < length k.shape.units) k.waiting (lists_of law k r places s).waiting_known at x e
+known_at law k r places Entry x s e = at_each (λ (y : Live). y.unit < length k.shape.units) k.entries (lists_of law k r places s).entries_known 0 x e
 
-pub room_at : (k : Kept) (place : Place) (x : Live) → Chooses k (Some place) → record_at k place ≡ Some x → KeptHasRoom k x.unit
-room_at k (Waiting at) x b e = let same : b.live ≡ x = let t = b.there in cc in subst (λ (y : Live). KeptHasRoom k y.unit) same b.room
+pub room_at : (k : StoreView) (place : Place) (x : Live) → Chooses k (Some place) → record_at k place ≡ Some x → StoreHasRoom k x.unit
+room_at k (Waiting at) x b e = let same : b.live ≡ x = let t = b.there in cc in subst (λ (y : Live). StoreHasRoom k y.unit) same b.room
 room_at k Entry x b e = go k.entries refl
   where
-    go : (xs : List Live) → k.entries ≡ xs → KeptHasRoom k x.unit
+    go : (xs : List Live) → k.entries ≡ xs → StoreHasRoom k x.unit
     go [] q = let z : slice_get [] 0 ≡ Some x = subst (λ (zs : List Live). slice_get zs 0 ≡ Some x) q e in absurd (cc)
     go (y ∷ xs) q =
         let there : slice_get (y ∷ xs) 0 ≡ Some x = subst (λ (zs : List Live). slice_get zs 0 ≡ Some x) q e in
         let same : y ≡ x = cc in
-        subst (KeptHasRoom k) (ap first_unit q ∙ ap (λ (z : Live). z.unit) same) b.1.1
+        subst (StoreHasRoom k) (ap first_unit q ∙ ap (λ (z : Live). z.unit) same) b.1.1
 
 not_among : (xs : List Pending) (o : Pending) (ys : List Pending) (ticket : ℕ) → o.ticket ≡ ticket → IsNotOut ticket (xs ++ o ∷ ys) → ⊥
 not_among [] o ys ticket e n = n.0 e
@@ -88,13 +90,13 @@ pub stopped_out : (core : CoreView) (stopped : Option ℕ) → IfSome stopped (S
 stopped_out core None s = tt
 stopped_out core (Some ticket) s = some_out core ticket s
 
-pub ends : (k : Kept) (r : Rest) (places : ℕ) (end : End) → IsSound k (seen k r) places → EndIs k r.outs r.stopped (length r.journal) r.limits end → Ends (seen k r) end
-ends k r places (ended.Turns launch) s e =
+pub ends : UnopenedIsWhole → (k : StoreView) (r : Rest) (places : ℕ) (end : End) → IsSoundCore k (seen k r) places → EndIs k r.outs r.stopped (length r.journal) r.limits end → EndsAs (seen k r) end
+ends law k r places (ended.Turns launch) s e =
     let l = e.2 in
     (e.0, e.1, (take l.place r.outs, l.pending, drop (suc l.place) r.outs, record { place = parted r.outs l.place l.pending l.there; named = l.named }, l.launch_is))
-ends k r places ended.Complete s e = (e.0, idle_of k r e.1 e.2)
-ends k r places ended.Launches s e =
+ends law k r places ended.Complete s e = (e.0, idle_of k r e.1 e.2)
+ends law k r places ended.Launches s e =
     let z = ap (λ (os : List Pending). length os) e.2 in
-    (e.0, λ idle. e.1 (idle.outs, bare_of_idle k r places s idle), e.2, (let j = e.3 in omega (arith, z, j)))
-ends k r places ended.Open s e =
-    (e.0, λ idle. e.1 (idle.outs, bare_of_idle k r places s idle), λ spent. e.2 (spent.2, (let z = ap (λ (os : List Pending). length os) spent.2 in let u = spent.3 in omega (arith, z, u))))
+    (e.0, λ idle. e.1 (idle.outs, bare_of_idle law k r places s idle), e.2, (let j = e.3 in omega (arith, z, j)))
+ends law k r places ended.Open s e =
+    (e.0, λ idle. e.1 (idle.outs, bare_of_idle law k r places s idle), λ spent. e.2 (spent.2, (let z = ap (λ (os : List Pending). length os) spent.2 in let u = spent.3 in omega (arith, z, u))))

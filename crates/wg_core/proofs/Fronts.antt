@@ -1,15 +1,45 @@
 -- What a launch takes from the front of a unit's list.
-use Rattle.std.proofs.Common.{◌≡◌, ℕ, zero, suc, ◌+◌, ◌<◌, Bool, true, false, ◌||◌, List, [], ◌∷◌, ◌++◌, refl, ap, sym, ◌∙◌, subst, arith}
-use Rattle.std.specs.Prelude.{◌==◌, take, drop}
+use Rattle.std.proofs.Common.{◌≡◌, ℕ, zero, suc, ◌+◌, ◌<◌, ◌≤◌, Bool, true, false, List, [], ◌∷◌, ◌++◌, map, refl, ap, sym, ◌∙◌, subst, arith}
+use Rattle.std.specs.Prelude.{if◌then◌else◌, ◌==◌, take, drop}
 use Rattle.std.proofs.lemmas.Bool.Decides.{nat_tests}
 use Rattle.wg_machine.specs.declared.launch.Live.{Live}
 use Rattle.wg_machine.specs.State.{kept}
 use Rattle.wg_machine.specs.Step.{left_after, is_among}
 use Rattle.wg_machine.specs.Grids.{without_group}
-use Rattle.wg_core.specs.Standing.{Rises, origin}
-use Rattle.wg_core.proofs.Commute.{live_with, ran}
-use Rattle.wg_core.proofs.Rising.{numbers}
-use Rattle.wg_core.proofs.Allowed.{same_self}
+use Rattle.wg_standing.specs.Standing.{Rises, origin}
+
+abbrev pub live_with : ℕ → ℕ → List ℕ → List (List ℕ) → Live
+live_with number unit words groups = record { number = number; unit = unit; words = words; groups = groups }
+
+abbrev pub ran : Bool → List ℕ → Live → List Live
+ran b at x = if b then kept (record x { groups = without_group at x.groups }) else x ∷ []
+
+abbrev pub numbers : List Live → List ℕ
+numbers bag = map (λ (x : Live). x.number) bag
+
+pub rises_weaker : (m n end : ℕ) (xs : List Live) → m ≤ n → Rises n xs end → Rises m xs end
+rises_weaker m n end [] h r = omega arith
+rises_weaker m n end (x ∷ xs) h r = let f = r.0 in (omega arith, r.1)
+
+rises_kept : (n end number unit : ℕ) (words : List ℕ) (gs : List (List ℕ)) (rest : List Live) → n ≤ number → Rises (number + 1) rest end → Rises n (kept (live_with number unit words gs) ++ rest) end
+rises_kept n end number unit words [] rest h r = rises_weaker n (number + 1) end rest (omega arith) r
+rises_kept n end number unit words (g ∷ gs) rest h r = (h, r)
+
+rises_ran : (n end : ℕ) (other : List ℕ) (x : Live) (rest : List Live) (b : Bool) → n ≤ x.number → Rises (x.number + 1) rest end → Rises n (ran b other x ++ rest) end
+rises_ran n end other x rest true h r = rises_kept n end x.number x.unit x.words (without_group other x.groups) rest h r
+rises_ran n end other x rest false h r = (h, r)
+
+pub rises_left : (n end : ℕ) (nums e : List ℕ) (bag : List Live) → Rises n bag end → Rises n (left_after nums e bag) end
+rises_left n end nums e [] r = r
+rises_left n end nums e (x ∷ bag) r = rises_ran n end e x (left_after nums e bag) (is_among nums x.number) r.0 (rises_left (x.number + 1) end nums e bag r.1)
+
+-- numbers below all are not among them
+pub among_none : (n m end : ℕ) (xs : List Live) → Rises m xs end → n < m → is_among (numbers xs) n ≡ false
+among_none n m end [] r h = refl
+among_none n m end (x ∷ xs) r h =
+    let f = r.0 in
+    let e : (x.number == n) ≡ false = grind (arith, nat_tests) in
+    rw (e, among_none n (x.number + 1) end xs r.1 (omega arith)) refl
 
 -- each record of the list has the one group
 abbrev pub EachWhole : List Live → Type 0

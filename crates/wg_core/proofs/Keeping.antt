@@ -11,20 +11,19 @@ use Rattle.wg_machine.specs.declared.shape.Unit.{Unit as Node}
 use Rattle.wg_machine.specs.declared.launch.Live.{Live}
 use Rattle.wg_machine.specs.GoodShape.{IsGoodShape}
 use Rattle.wg_machine.specs.Need.{need, need_of, most}
-use Rattle.wg_machine.specs.Units.{depth_at, stride_at}
+use Rattle.wg_machine.specs.Units.{stride_at}
 use Rattle.wg_core.specs.declared.store.Store.TheInside.{Inside}
 use Rattle.wg_words.specs.Each.{Each}
 use Rattle.wg_machine.specs.declared.launch.Sent.{Sent}
 use Rattle.wg_machine.specs.LaunchMeaning.{Arrives}
 use Rattle.std.proofs.lemmas.Option.{slice_get_read}
-use Rattle.wg_core.specs.Moves.{bytes_of, used_more}
-use Rattle.wg_core.specs.Standing.{in_slot}
-use Rattle.wg_core.specs.Store.{Kept, KeptHasRoom, NoneBelow, IsBestBelow, BestBelow, ComesBefore, ArrivesIn, thread_born, thread_live}
-use Rattle.wg_core.specs.StoreInside.{IsStore, kept_of}
-use Rattle.wg_core.proofs.Blocks.{le_or}
+use Rattle.wg_standing.specs.Moves.{slot_bytes, used_more}
+use Rattle.wg_standing.specs.Standing.{in_slot}
+use Rattle.wg_core.specs.Store.{StoreView, StoreHasRoom, BestBelow, ArrivesIn, thread_born, thread_live}
+use Rattle.wg_core.specs.StoreInside.{IsStore, store_view}
 use Rattle.wg_core.proofs.Bounds.{most_few}
-use Rattle.wg_core.proofs.Counting.{count_cons, pay}
-use Rattle.wg_core.proofs.Shapes.{need_none}
+use Rattle.wg_core.proofs.Lists.{count_cons, le_or, pay}
+use Rattle.wg_standing.specs.Laws.{OnlyUnitsAreNeeded}
 use Rattle.wg_core.proofs.Slotting.{past_end, times_few}
 
 -- a row of a table is that of a unit
@@ -43,15 +42,15 @@ pub record SaysNeeds (shape : Shape) (u : ℕ) (row : List ℕ) : Type 0 where
   pub many : length row ≡ length shape.units
   pub at : (v : ℕ) → slice_index row v ≡ need shape u v
 
-pub says_needs : (shape : Shape) (rows : List (List ℕ)) (u : ℕ) (row : List ℕ) → IsGoodShape shape → rows ≡ map (λ (w : Node). map (need_of w) (range_with_len 0 (length shape.units))) shape.units → slice_get rows u ≡ Some row → SaysNeeds shape u row
-says_needs shape rows u row good are e =
+pub says_needs : OnlyUnitsAreNeeded → (shape : Shape) (rows : List (List ℕ)) (u : ℕ) (row : List ℕ) → IsGoodShape shape → rows ≡ map (λ (w : Node). map (need_of w) (range_with_len 0 (length shape.units))) shape.units → slice_get rows u ≡ Some row → SaysNeeds shape u row
+says_needs law shape rows u row good are e =
     let n = length shape.units in
     let r = row_of shape.units n u row (sym (ap (λ (rs : List (List ℕ)). slice_get rs u) are) ∙ e) in
     let many : length row ≡ n = ap (λ (xs : List ℕ). length xs) r.row_is ∙ length-map-range_with_len (need_of r.node) 0 n in
     record {
       many = many;
       at = λ v. elim (le_or n v) [
-        | inl past ↦ past_end row v (omega (arith, many, past)) ∙ sym (need_none shape u v good past)
+        | inl past ↦ past_end row v (omega (arith, many, past)) ∙ sym (law shape u v good past)
         | inr within ↦ (
             let z : 0 + v ≡ v = omega arith in
             ap (λ (xs : List ℕ). slice_index xs v) r.row_is
@@ -73,13 +72,13 @@ most_many shape mosts are = ap (λ (xs : List ℕ). length xs) are ∙ length-ma
 abbrev pub Holds : Inside → List ℕ → Type 0
 Holds s row = (v : ℕ) → v < length row → slice_index s.used.items v + slice_index s.reserved.items v + slice_index row v ≤ s.width * slice_index s.needs.most v
 
-pub holds_room : (s : Inside) (u : ℕ) (row : List ℕ) → IsStore s → slice_get s.needs.rows u ≡ Some row → Holds s row → KeptHasRoom (kept_of s) u
-holds_room s u row store e holds v =
-    let n = says_needs s.shape s.needs.rows u row store.good store.needs.rows e in
+pub holds_room : OnlyUnitsAreNeeded → (s : Inside) (u : ℕ) (row : List ℕ) → IsStore s → slice_get s.needs.rows u ≡ Some row → Holds s row → StoreHasRoom (store_view s) u
+holds_room law s u row store e holds v =
+    let n = says_needs law s.shape s.needs.rows u row store.good store.needs.rows e in
     let many = n.many in
     let is = n.at v in
     elim (le_or (length s.shape.units) v) [
-      | inl past ↦ (let r = store.room v in let z = need_none s.shape u v store.good past in omega (arith, r, z))
+      | inl past ↦ (let r = store.room v in let z = law s.shape u v store.good past in omega (arith, r, z))
       | inr within ↦ (
           let h = holds v (omega (arith, many, within)) in
           let m = ap (λ (k : ℕ). s.width * k) (most_at s.shape s.needs.most v store.needs.most within) in
@@ -87,9 +86,9 @@ holds_room s u row store e holds v =
           )
     ]
 
-pub room_holds : (s : Inside) (u : ℕ) (row : List ℕ) → IsStore s → slice_get s.needs.rows u ≡ Some row → KeptHasRoom (kept_of s) u → Holds s row
-room_holds s u row store e room v l =
-    let n = says_needs s.shape s.needs.rows u row store.good store.needs.rows e in
+pub room_holds : OnlyUnitsAreNeeded → (s : Inside) (u : ℕ) (row : List ℕ) → IsStore s → slice_get s.needs.rows u ≡ Some row → StoreHasRoom (store_view s) u → Holds s row
+room_holds law s u row store e room v l =
+    let n = says_needs law s.shape s.needs.rows u row store.good store.needs.rows e in
     let many = n.many in
     let is = n.at v in
     let h = room v in
@@ -99,15 +98,15 @@ room_holds s u row store e room v l =
 pub slots_small : (s : Inside) (v : ℕ) → IsStore s → s.width * most s.shape v ≤ 1048576
 slots_small s v store = let t = times_few s.width (most s.shape v) 64 16384 store.narrow (most_few s.shape v store.good) in omega (arith, t)
 
-least_bytes : (shape : Shape) (v n : ℕ) → bytes_of shape v (map (most shape) (range_with_len v n)) ≡ sum_by (λ w. most shape w * stride_at shape w) (range_with_len v n)
+least_bytes : (shape : Shape) (v n : ℕ) → slot_bytes shape v (map (most shape) (range_with_len v n)) ≡ sum_by (λ w. most shape w * stride_at shape w) (range_with_len v n)
 least_bytes shape v zero = refl
 least_bytes shape v (suc n) =
     let c = sum_by-cons (λ w. most shape w * stride_at shape w) v (range_with_len (v + 1) n) in
     ap (λ (k : ℕ). most shape v * stride_at shape v + k) (least_bytes shape (v + 1) n) ∙ sym c
 
 -- the bytes of the greatest needs are the least bytes of a plan
-pub least_is : (shape : Shape) (mosts : List ℕ) → mosts ≡ map (most shape) (range_with_len 0 (length shape.units)) → bytes_of shape 0 mosts ≡ sum_by (λ w. most shape w * stride_at shape w) (range_with_len 0 (length shape.units))
-least_is shape mosts are = ap (bytes_of shape 0) are ∙ least_bytes shape 0 (length shape.units)
+pub least_is : (shape : Shape) (mosts : List ℕ) → mosts ≡ map (most shape) (range_with_len 0 (length shape.units)) → slot_bytes shape 0 mosts ≡ sum_by (λ w. most shape w * stride_at shape w) (range_with_len 0 (length shape.units))
+least_is shape mosts are = ap (slot_bytes shape 0) are ∙ least_bytes shape 0 (length shape.units)
 
 -- one record more, without room
 same_or_below : (i n : ℕ) → i < n + 1 → (i < n) ⊎ (i ≡ n)
@@ -117,14 +116,14 @@ same_or_below i n h = choice (nat_le n i) refl
     choice true e = inr (let k : n ≤ i = grind (arith, nat_tests) in omega arith)
     choice false e = inl (grind (arith, nat_tests))
 
-same_there : (k : Kept) (n i : ℕ) (x y : Live) → slice_get k.waiting n ≡ Some x → slice_get k.waiting i ≡ Some y → i ≡ n → y ≡ x
+same_there : (k : StoreView) (n i : ℕ) (x y : Live) → slice_get k.waiting n ≡ Some x → slice_get k.waiting i ≡ Some y → i ≡ n → y ≡ x
 same_there k n i x y e f q =
     let g : slice_get k.waiting n ≡ Some y = subst (λ (j : ℕ). slice_get k.waiting j ≡ Some y) q f in cc
 
-pub no_better : (k : Kept) (n : ℕ) (x : Live) (best : Option ℕ) → slice_get k.waiting n ≡ Some x → (KeptHasRoom k x.unit → ⊥) → BestBelow k n best → BestBelow k (n + 1) best
+pub no_better : (k : StoreView) (n : ℕ) (x : Live) (best : Option ℕ) → slice_get k.waiting n ≡ Some x → (StoreHasRoom k x.unit → ⊥) → BestBelow k n best → BestBelow k (n + 1) best
 no_better k n x None there full none = λ i y h e room. elim (same_or_below i n h) [
   | inl below ↦ none i y below e room
-  | inr q ↦ full (subst (KeptHasRoom k) (ap (λ (z : Live). z.unit) (same_there k n i x y there e q)) room)
+  | inr q ↦ full (subst (StoreHasRoom k) (ap (λ (z : Live). z.unit) (same_there k n i x y there e q)) room)
 ]
 no_better k n x (Some at) there full b =
     record {
@@ -135,7 +134,7 @@ no_better k n x (Some at) there full b =
       first = b.first;
       best = λ i y h e room. elim (same_or_below i n h) [
         | inl below ↦ b.best i y below e room
-        | inr q ↦ absurd (full (subst (KeptHasRoom k) (ap (λ (z : Live). z.unit) (same_there k n i x y there e q)) room))
+        | inr q ↦ absurd (full (subst (StoreHasRoom k) (ap (λ (z : Live). z.unit) (same_there k n i x y there e q)) room))
       ];
     }
 
@@ -144,11 +143,11 @@ length_rows [] n = refl
 length_rows (u ∷ units) n = ap suc (length_rows units n)
 
 -- a row that was read says what its unit needs
-pub row_says : (s : Inside) (rows : List (List ℕ)) (u : ℕ) (row : List ℕ) → IsStore s → rows ≡ s.needs.rows → u < length s.shape.units → row ≡ get_or rows u row → SaysNeeds s.shape u row
-row_says s rows u row store same within is =
+pub row_says : OnlyUnitsAreNeeded → (s : Inside) (rows : List (List ℕ)) (u : ℕ) (row : List ℕ) → IsStore s → rows ≡ s.needs.rows → u < length s.shape.units → row ≡ get_or rows u row → SaysNeeds s.shape u row
+row_says law s rows u row store same within is =
     let are = same ∙ store.needs.rows in
     let many = ap (λ (rs : List (List ℕ)). length rs) are ∙ length_rows s.shape.units (length s.shape.units) in
-    says_needs s.shape rows u row store.good are (slice_get_read rows (length rows) u row refl (omega (arith, many, within)) is)
+    says_needs law s.shape rows u row store.good are (slice_get_read rows (length rows) u row refl (omega (arith, many, within)) is)
 
 pub some_within : (xs : List Live) (i : ℕ) → IsSome (slice_get xs i) → i < length xs
 some_within [] i h = absurd (cc)

@@ -1,63 +1,72 @@
--- Lists by unit.
-use Rattle.std.proofs.Common.{◌≡◌, ℕ, zero, suc, ◌+◌, Bool, true, false, List, [], ◌∷◌, ◌++◌, map, refl, ap, sym, ◌∙◌}
-use Rattle.std.specs.Prelude.{if◌then◌else◌, ◌==◌, ◌&&◌, filter, nat_le}
+-- Counts, tests and parts of lists.
+use Rattle.std.proofs.Common.{◌≡◌, ℕ, zero, suc, ◌+◌, ◌<◌, ◌≤◌, Bool, true, false, cond, List, [], ◌∷◌, ◌++◌, length, map, refl, ap, sym, ◌∙◌, arith, inl, inr, ◌⊎◌, Some, unwrap_or}
+use Rattle.std.specs.Prelude.{if◌then◌else◌, ◌==◌, ◌&&◌, filter, count_by, nat_le, slice_get}
+use Rattle.std.proofs.lemmas.Bool.Decides.{nat_tests}
+use Rattle.std.proofs.lemmas.List.Sums.{sum_by-cons}
 use Rattle.wg_machine.specs.declared.launch.Live.{Live}
-use Rattle.wg_machine.specs.State.{kept}
-use Rattle.wg_machine.specs.Step.{left_after, is_among}
-use Rattle.wg_machine.specs.Grids.{without_group}
-use Rattle.wg_core.specs.Standing.{by_unit, in_slot}
-use Rattle.wg_core.specs.Moves.{all_more}
-use Rattle.wg_core.proofs.Commute.{live_with, ran}
+use Rattle.wg_machine.specs.declared.shape.Shape.{Shape}
+use Rattle.wg_machine.specs.Need.{need}
+use Rattle.wg_machine.specs.Step.{left_after}
+use Rattle.wg_standing.specs.declared.pending.Pending.{Pending}
+use Rattle.wg_standing.specs.Laws.{LaunchesLeaveEachList}
+use Rattle.wg_standing.specs.Moves.{all_more}
+use Rattle.wg_standing.specs.Standing.{by_unit, in_slot, reserved}
 
--- a test of unit and number alone
-abbrev pub Test : Type 0
-Test = ℕ → ℕ → Bool
+pub count_cons : {X : Type 0} → (p : X → Bool) (x : X) (xs : List X) → count_by p (x ∷ xs) ≡ (if p x then 1 else 0) + count_by p xs
+count_cons p x xs = sum_by-cons (λ y. cond (p y) 1 0) x xs
 
-abbrev pub those : Test → List Live → List Live
-those p bag = filter (λ (x : Live). p x.unit x.number) bag
+pub count_append : {X : Type 0} → (p : X → Bool) (xs ys : List X) → count_by p (xs ++ ys) ≡ count_by p xs + count_by p ys
+count_append p [] ys = omega arith
+count_append p (x ∷ xs) ys =
+    let a = count_cons p x xs in
+    let b = count_cons p x (xs ++ ys) in
+    let c = count_append p xs ys in omega (arith, a, b, c)
 
-pub those_append : (p : Test) (xs ys : List Live) → those p (xs ++ ys) ≡ those p xs ++ those p ys
-those_append p [] ys = refl
-those_append p (x ∷ xs) ys = choice (those_append p xs ys) (p x.unit x.number)
+abbrev pub pay : Bool → ℕ → ℕ
+pay b n = if b then n else 0
+
+pub le_or : (a b : ℕ) → (a ≤ b) ⊎ (b < a)
+le_or a b = choice (nat_le a b) refl
   where
-    choice : those p (xs ++ ys) ≡ those p xs ++ those p ys → (b : Bool) → (if b then x ∷ those p (xs ++ ys) else those p (xs ++ ys)) ≡ (if b then x ∷ those p xs else those p xs) ++ those p ys
+    choice : (t : Bool) → nat_le a b ≡ t → (a ≤ b) ⊎ (b < a)
+    choice true e = inl (let k : a ≤ b = grind (arith, nat_tests) in k)
+    choice false e = inr (let k : b < a = grind (arith, nat_tests) in k)
+
+pub get_below : {X : Type 0} → (xs : List X) (i : ℕ) (x : X) → slice_get xs i ≡ Some x → i < length xs
+get_below [] i x e = absurd (cc)
+get_below (y ∷ xs) zero x e = omega arith
+get_below (y ∷ xs) (suc i) x e = let h = get_below xs i x e in omega arith
+
+pub filter_append : (p : Live → Bool) (xs ys : List Live) → filter p (xs ++ ys) ≡ filter p xs ++ filter p ys
+filter_append p [] ys = refl
+filter_append p (x ∷ xs) ys = choice (filter_append p xs ys) (p x)
+  where
+    choice : filter p (xs ++ ys) ≡ filter p xs ++ filter p ys → (b : Bool) → (if b then x ∷ filter p (xs ++ ys) else filter p (xs ++ ys)) ≡ (if b then x ∷ filter p xs else filter p xs) ++ filter p ys
     choice ih true = ap (λ (rest : List Live). x ∷ rest) ih
     choice ih false = ih
 
-those_kept : (p : Test) (number unit : ℕ) (words : List ℕ) (gs : List (List ℕ)) (b : Bool) → p unit number ≡ b → those p (kept (live_with number unit words gs)) ≡ (if b then kept (live_with number unit words gs) else [])
-those_kept p number unit words [] true e = refl
-those_kept p number unit words [] false e = refl
-those_kept p number unit words (g ∷ gs) true e = rw e refl
-those_kept p number unit words (g ∷ gs) false e = rw e refl
+pub by_unit_at : (handed w n k : ℕ) (bag : List Live) → k < n → unwrap_or (slice_get (by_unit handed w n bag) k) [] ≡ filter (in_slot handed (w + k)) bag
+by_unit_at handed w zero k bag h = absurd (omega arith)
+by_unit_at handed w (suc n) zero bag h = let e : w ≡ w + 0 = omega arith in ap (λ (v : ℕ). filter (in_slot handed v) bag) e
+by_unit_at handed w (suc n) (suc k) bag h = let e : w + 1 + k ≡ w + suc k = omega arith in by_unit_at handed (w + 1) n k bag (omega arith) ∙ ap (λ (v : ℕ). filter (in_slot handed v) bag) e
 
-those_ran : (p : Test) (other : List ℕ) (x : Live) (t b : Bool) → p x.unit x.number ≡ b → those p (ran t other x) ≡ (if b then ran t other x else [])
-those_ran p other x true b e = those_kept p x.number x.unit x.words (without_group other x.groups) b e
-those_ran p other x false true e = rw e refl
-those_ran p other x false false e = rw e refl
-
--- a launch takes its group from those that pass as from all
-pub those_left : (p : Test) (nums other : List ℕ) (bag : List Live) → left_after nums other (those p bag) ≡ those p (left_after nums other bag)
-those_left p nums other [] = refl
-those_left p nums other (x ∷ bag) = choice (those_left p nums other bag) (p x.unit x.number) refl
-  where
-    choice : left_after nums other (those p bag) ≡ those p (left_after nums other bag) → (b : Bool) → p x.unit x.number ≡ b → left_after nums other (if b then x ∷ those p bag else those p bag) ≡ those p (ran (is_among nums x.number) other x ++ left_after nums other bag)
-    choice ih true e =
-        ap (λ (rest : List Live). ran (is_among nums x.number) other x ++ rest) ih
-        ∙ ap (λ (first : List Live). first ++ those p (left_after nums other bag)) (sym (those_ran p other x (is_among nums x.number) true e))
-        ∙ sym (those_append p (ran (is_among nums x.number) other x) (left_after nums other bag))
-    choice ih false e =
-        ih
-        ∙ ap (λ (first : List Live). first ++ those p (left_after nums other bag)) (sym (those_ran p other x (is_among nums x.number) false e))
-        ∙ sym (those_append p (ran (is_among nums x.number) other x) (left_after nums other bag))
-
-pub by_unit_left : (handed v n : ℕ) (nums other : List ℕ) (bag : List Live) → map (left_after nums other) (by_unit handed v n bag) ≡ by_unit handed v n (left_after nums other bag)
-by_unit_left handed v zero nums other bag = refl
-by_unit_left handed v (suc n) nums other bag =
-    ap (λ (first : List Live). first ∷ map (left_after nums other) (by_unit handed (v + 1) n bag)) (those_left (λ u m. (u == v) && nat_le handed m) nums other bag)
-    ∙ ap (λ (rest : List (List Live)). filter (in_slot handed v) (left_after nums other bag) ∷ rest) (by_unit_left handed (v + 1) n nums other bag)
+pub by_unit_left : LaunchesLeaveEachList → (handed v n : ℕ) (nums other : List ℕ) (bag : List Live) → map (left_after nums other) (by_unit handed v n bag) ≡ by_unit handed v n (left_after nums other bag)
+by_unit_left law handed v zero nums other bag = refl
+by_unit_left law handed v (suc n) nums other bag =
+    ap (λ (first : List Live). first ∷ map (left_after nums other) (by_unit handed (v + 1) n bag)) (law (λ u m. (u == v) && nat_le handed m) nums other bag)
+    ∙ ap (λ (rest : List (List Live)). filter (in_slot handed v) (left_after nums other bag) ∷ rest) (by_unit_left law handed (v + 1) n nums other bag)
 
 pub by_unit_append : (handed v n : ℕ) (bag fresh : List Live) → all_more handed v fresh (by_unit handed v n bag) ≡ by_unit handed v n (bag ++ fresh)
 by_unit_append handed v zero bag fresh = refl
 by_unit_append handed v (suc n) bag fresh =
-    ap (λ (first : List Live). first ∷ all_more handed (v + 1) fresh (by_unit handed (v + 1) n bag)) (sym (those_append (λ u m. (u == v) && nat_le handed m) bag fresh))
+    ap (λ (first : List Live). first ∷ all_more handed (v + 1) fresh (by_unit handed (v + 1) n bag)) (sym (filter_append (in_slot handed v) bag fresh))
     ∙ ap (λ (rest : List (List Live)). filter (in_slot handed v) (bag ++ fresh) ∷ rest) (by_unit_append handed (v + 1) n bag fresh)
+
+-- what the rest may send, and what the one that settles may
+pub reserved_without : (shape : Shape) (v : ℕ) (xs : List Pending) (o : Pending) (ys : List Pending) → reserved shape (xs ++ o ∷ ys) v ≡ reserved shape (xs ++ ys) v + need shape o.launch.unit v
+reserved_without shape v [] o ys =
+    let c = sum_by-cons (λ (p : Pending). need shape p.launch.unit v) o ys in omega (arith, c)
+reserved_without shape v (x ∷ xs) o ys =
+    let c = sum_by-cons (λ (p : Pending). need shape p.launch.unit v) x (xs ++ ys) in
+    let d = sum_by-cons (λ (p : Pending). need shape p.launch.unit v) x (xs ++ o ∷ ys) in
+    let ih = reserved_without shape v xs o ys in omega (arith, c, d, ih)

@@ -2,7 +2,7 @@
 use Rattle.std.proofs.Common.{◌≡◌, ℕ, suc, ◌+◌, ◌<◌, Bool, List, length, ap, sym, ◌∙◌, arith, drop, get_or, drop-cons}
 use Rattle.wg_machine.specs.declared.shape.Output.{Output}
 use Rattle.wg_machine.specs.Need.{reaches, need_from}
-use Rattle.wg_core.proofs.Counting.{pay}
+use Rattle.wg_core.proofs.Lists.{pay}
 
 need_next : (outputs : List Output) (i v : ℕ) (budgets : List ℕ) → i < length budgets → need_from outputs i (drop i budgets) v ≡ pay (reaches outputs i v) (get_or budgets i 0) + need_from outputs (i + 1) (drop (i + 1) budgets) v
 need_next outputs i v budgets h =

@@ -5,36 +5,36 @@ use Rattle.std.proofs.lemmas.Bool.Decides.{nat_tests, Decides-eqb}
 use Rattle.std.proofs.lemmas.List.Sums.{sum_by_push}
 use Rattle.std.proofs.lemmas.List.{length_push}
 use Rattle.wg_words.specs.Each.{Each}
-use Rattle.wg_machine.specs.declared.shape.Shape.{Shape}
 use Rattle.wg_machine.specs.declared.launch.Entry.{Entry}
 use Rattle.wg_machine.specs.declared.launch.Limits.{Limits}
 use Rattle.wg_machine.specs.declared.launch.Live.{Live}
 use Rattle.wg_machine.specs.Need.{need}
 use Rattle.wg_machine.specs.Step.{left_after}
 use Rattle.wg_machine.specs.Units.{depth_at}
-use Rattle.wg_core.specs.declared.pending.Pending.{Pending}
+use Rattle.wg_standing.specs.declared.pending.Pending.{Pending}
 use Rattle.wg_core.specs.declared.store.Place.{Place}
 use Rattle.wg_core.specs.declared.store.Place.TheVariants.{Waiting, Entry as FirstEntry}
-use Rattle.wg_core.specs.Choice.{CanEnter, IsChoice, IsPick, NoChoice, NoPick, UnitHasRoom, first_unit, from_entries, from_slots, next_entries, pending_from, waiting_at}
-use Rattle.wg_core.specs.Core.{CoreView}
-use Rattle.wg_core.specs.Inside.{IsSound, is_in_slot, now_of}
-use Rattle.wg_core.specs.Moves.{with_out}
-use Rattle.wg_core.specs.Outs.{after_one, numbers_out, unopened}
-use Rattle.wg_core.specs.Standing.{EachFull, EachKnown, IsFull, Rises, by_unit, in_slot, is_entry, origin}
-use Rattle.wg_core.specs.Store.{Chooses, IsBare, IsBestBelow, Kept, KeptHasRoom, NoneBelow, Takes, record_at, thread_pending, without}
-use Rattle.wg_core.specs.Tables.{SomeIsOut}
-use Rattle.wg_core.proofs.Blocks.{by_unit_at, le_or, never_blocks}
+use Rattle.wg_standing.specs.Choice.{CanEnter, IsChoice, IsPick, NoChoice, NoPick, UnitHasRoom, first_unit, from_entries, from_slots, next_entries, pending_from, waiting_at}
+use Rattle.wg_standing.specs.Core.{CoreView}
+use Rattle.wg_core.specs.Inside.{IsSoundCore, is_in_slot, view_of}
+use Rattle.wg_standing.specs.Moves.{with_out}
+use Rattle.wg_standing.specs.Outs.{unopened}
+use Rattle.wg_standing.specs.Standing.{EachKnown, IsFull, Rises, by_unit, in_slot, is_entry_record, origin}
+use Rattle.wg_standing.specs.Laws.{LaunchesLeaveEachList, NeverBlocked, OpeningsLeave, OpeningsPlace, UnopenedIsWhole}
+use Rattle.wg_core.specs.Store.{Chooses, IsBare, IsBestBelow, StoreView, StoreHasRoom, NoneBelow, StoreOpens, record_at, thread_pending, without}
+use Rattle.wg_standing.specs.Idle.{SomeIsOut}
 use Rattle.wg_core.proofs.Bounds.{at_each}
-use Rattle.wg_core.proofs.Bytes.{full_left}
-use Rattle.wg_core.proofs.Chosen.{choice_fine}
-use Rattle.wg_core.proofs.Commute.{unopened_append}
-use Rattle.wg_core.proofs.Fronts.{EachWhole}
-use Rattle.wg_core.proofs.Lists.{by_unit_left, those_left}
-use Rattle.wg_core.proofs.OutMore.{opened_placed}
-use Rattle.wg_core.proofs.Rising.{rises_unopened, rises_weaker}
-use Rattle.wg_core.proofs.Shapes.{get_below}
-use Rattle.wg_core.proofs.Still.{known_left}
+use Rattle.wg_core.proofs.Fronts.{EachWhole, rises_weaker}
+use Rattle.wg_core.proofs.Lists.{by_unit_at, by_unit_left, get_below, le_or}
 use Rattle.wg_core.proofs.Threads.{each_whole, left_one, left_other, pending_is, slots_first, while_first}
+
+-- the laws of the relation by which a core opens
+pub record OpeningLaws : Type 0 where
+  pub whole : UnopenedIsWhole
+  pub place : OpeningsPlace
+  pub leave : OpeningsLeave
+  pub lists : LaunchesLeaveEachList
+  pub free : NeverBlocked
 
 -- the fields of a core beside its store
 pub record Rest : Type 0 where
@@ -47,13 +47,13 @@ pub record Rest : Type 0 where
   pub peak : ℕ
   pub stopped : Option ℕ
 
-abbrev pub seen : Kept → Rest → CoreView
-seen k r = now_of k r.limits r.journal r.next r.outs r.tickets r.denied r.peak r.stopped
+abbrev pub seen : StoreView → Rest → CoreView
+seen k r = view_of k r.limits r.journal r.next r.outs r.tickets r.denied r.peak r.stopped
 
-room_to : (k : Kept) (r : Rest) (places : ℕ) → IsSound k (seen k r) places → (u : ℕ) → KeptHasRoom k u → UnitHasRoom (seen k r) u
+room_to : (k : StoreView) (r : Rest) (places : ℕ) → IsSoundCore k (seen k r) places → (u : ℕ) → StoreHasRoom k u → UnitHasRoom (seen k r) u
 room_to k r places s u room v = let a = room v in let b = s.reserves v in omega (arith, a, b)
 
-room_from : (k : Kept) (r : Rest) (places : ℕ) → IsSound k (seen k r) places → (u : ℕ) → UnitHasRoom (seen k r) u → KeptHasRoom k u
+room_from : (k : StoreView) (r : Rest) (places : ℕ) → IsSoundCore k (seen k r) places → (u : ℕ) → UnitHasRoom (seen k r) u → StoreHasRoom k u
 room_from k r places s u room v = let a = room v in let b = s.reserves v in omega (arith, a, b)
 
 each_filter : (P : Live → Type 0) (p : Live → Bool) (xs : List Live) → Each P xs → Each P (filter p xs)
@@ -80,16 +80,8 @@ rises_filter lo end p (x ∷ xs) r = choice (p x) (rises_filter (x.number + 1) e
     choice true ih = (r.0, ih)
     choice false ih = let low = r.0 in rises_weaker lo (x.number + 1) end (filter p xs) (omega arith) ih
 
-known_unopened : (n : ℕ) (outs : List Pending) (bag : List Live) → EachKnown n bag → EachKnown n (unopened outs bag)
-known_unopened n [] bag e = e
-known_unopened n (o ∷ outs) bag e = known_unopened n outs (after_one o bag) (known_left n (numbers_out o) o.at bag e)
-
-full_unopened : (shape : Shape) (outs : List Pending) (bag : List Live) → EachFull shape bag → EachFull shape (unopened outs bag)
-full_unopened shape [] bag f = f
-full_unopened shape (o ∷ outs) bag f = full_unopened shape outs (after_one o bag) (full_left shape (numbers_out o) o.at bag f)
-
 -- what a sound core knows of the records of its store
-pub record Lists (k : Kept) (next : ℕ) : Type 0 where
+pub record Lists (k : StoreView) (next : ℕ) : Type 0 where
   pub waiting_rises : Rises 0 k.waiting next
   pub waiting_whole : EachWhole k.waiting
   pub waiting_known : EachKnown (length k.shape.units) k.waiting
@@ -99,13 +91,14 @@ pub record Lists (k : Kept) (next : ℕ) : Type 0 where
   pub entries_known : EachKnown (length k.shape.units) k.entries
   pub entries_earlier : Each (λ (x : Live). nat_le (x.number + 1) k.handed ≡ true) k.entries
 
-pub lists_of : (k : Kept) (r : Rest) (places : ℕ) → IsSound k (seen k r) places → Lists k r.next
-lists_of k r places s =
+pub lists_of : UnopenedIsWhole → (k : StoreView) (r : Rest) (places : ℕ) → IsSoundCore k (seen k r) places → Lists k r.next
+lists_of law k r places s =
     let n = length k.shape.units in
     let ready = unopened r.outs s.bag in
-    let rises = rises_unopened 0 r.next r.outs s.bag s.placed.rises in
-    let full = full_unopened k.shape r.outs s.bag s.placed.full in
-    let known = known_unopened n r.outs s.bag s.placed.known in
+    let all = law (seen k r) s.bag s.placed in
+    let rises = all.rises in
+    let full = all.full in
+    let known = all.known in
     let w = sym s.waiting in
     let e = sym s.placed.entries in
     record {
@@ -113,13 +106,13 @@ lists_of k r places s =
       waiting_whole = subst EachWhole w (each_whole k.shape s.threads (filter (is_in_slot k.handed) ready) (each_filter (IsFull k.shape) (is_in_slot k.handed) ready full));
       waiting_known = subst (EachKnown n) w (each_filter (λ (x : Live). x.unit < n) (is_in_slot k.handed) ready known);
       waiting_later = subst (Each (λ (x : Live). nat_le k.handed x.number ≡ true)) w (each_passes (is_in_slot k.handed) ready);
-      entries_rise = subst (λ (xs : List Live). Rises 0 xs r.next) e (rises_filter 0 r.next (is_entry k.handed) ready rises);
-      entries_whole = subst EachWhole e (each_whole k.shape s.threads (filter (is_entry k.handed) ready) (each_filter (IsFull k.shape) (is_entry k.handed) ready full));
-      entries_known = subst (EachKnown n) e (each_filter (λ (x : Live). x.unit < n) (is_entry k.handed) ready known);
-      entries_earlier = subst (Each (λ (x : Live). nat_le (x.number + 1) k.handed ≡ true)) e (each_passes (is_entry k.handed) ready);
+      entries_rise = subst (λ (xs : List Live). Rises 0 xs r.next) e (rises_filter 0 r.next (is_entry_record k.handed) ready rises);
+      entries_whole = subst EachWhole e (each_whole k.shape s.threads (filter (is_entry_record k.handed) ready) (each_filter (IsFull k.shape) (is_entry_record k.handed) ready full));
+      entries_known = subst (EachKnown n) e (each_filter (λ (x : Live). x.unit < n) (is_entry_record k.handed) ready known);
+      entries_earlier = subst (Each (λ (x : Live). nat_le (x.number + 1) k.handed ≡ true)) e (each_passes (is_entry_record k.handed) ready);
     }
 
-waiting_is : (k : Kept) (r : Rest) (v : ℕ) → v < length k.shape.units → waiting_at (seen k r) v ≡ filter (in_slot k.handed v) k.waiting
+waiting_is : (k : StoreView) (r : Rest) (v : ℕ) → v < length k.shape.units → waiting_at (seen k r) v ≡ filter (in_slot k.handed v) k.waiting
 waiting_is k r v h = let z : 0 + v ≡ v = omega arith in by_unit_at k.handed 0 (length k.shape.units) v k.waiting h ∙ ap (λ (w : ℕ). filter (in_slot k.handed w) k.waiting) z
 
 past_units : (handed w n v : ℕ) (xs : List Live) → n ≤ v → unwrap_or (slice_get (by_unit handed w n xs) v) [] ≡ []
@@ -147,30 +140,30 @@ some_found handed v (x ∷ xs) h = choice (in_slot handed v x) refl (λ k. some_
     choice false e later h = let f = later h in record { place = suc f.place; live = f.live; there = f.there; unit_is = f.unit_is }
 
 -- a unit that waits has a record in the store
-found_at : (k : Kept) (r : Rest) (v : ℕ) → 0 < length (waiting_at (seen k r) v) → Found v k.waiting
+found_at : (k : StoreView) (r : Rest) (v : ℕ) → 0 < length (waiting_at (seen k r) v) → Found v k.waiting
 found_at k r v h =
     elim (le_or (length k.shape.units) v) [
       | inl past ↦ (let z = ap (λ (xs : List Live). length xs) (past_units k.handed 0 (length k.shape.units) v k.waiting past) in absurd (omega (arith, z, h)))
       | inr within ↦ some_found k.handed v k.waiting (subst (λ (xs : List Live). 0 < length xs) (waiting_is k r v within) h)
     ]
 
-pub no_pick : (k : Kept) (r : Rest) (places : ℕ) → IsSound k (seen k r) places → NoneBelow k (length k.waiting) → NoPick (seen k r)
+pub no_pick : (k : StoreView) (r : Rest) (places : ℕ) → IsSoundCore k (seen k r) places → NoneBelow k (length k.waiting) → NoPick (seen k r)
 no_pick k r places s none v h room =
     let f = found_at k r v h in
-    none f.place f.live (get_below k.waiting f.place f.live f.there) f.there (subst (KeptHasRoom k) (sym f.unit_is) (room_from k r places s v room))
+    none f.place f.live (get_below k.waiting f.place f.live f.there) f.there (subst (StoreHasRoom k) (sym f.unit_is) (room_from k r places s v room))
 
-is_pick : (k : Kept) (r : Rest) (places at : ℕ) (x : Live) → IsSound k (seen k r) places → (b : IsBestBelow k (length k.waiting) at) → b.live ≡ x → (rest : List Live) → waiting_at (seen k r) x.unit ≡ x ∷ rest → IsPick (seen k r) x.unit
-is_pick k r places at x s b same rest front =
-    let known = at_each (λ (y : Live). y.unit < length k.shape.units) k.waiting (lists_of k r places s).waiting_known at b.live b.there in
+is_pick : UnopenedIsWhole → (k : StoreView) (r : Rest) (places at : ℕ) (x : Live) → IsSoundCore k (seen k r) places → (b : IsBestBelow k (length k.waiting) at) → b.live ≡ x → (rest : List Live) → waiting_at (seen k r) x.unit ≡ x ∷ rest → IsPick (seen k r) x.unit
+is_pick law k r places at x s b same rest front =
+    let known = at_each (λ (y : Live). y.unit < length k.shape.units) k.waiting (lists_of law k r places s).waiting_known at b.live b.there in
     let u = ap (λ (y : Live). y.unit) same in
     let many = length_by_unit k.handed 0 (length k.shape.units) k.waiting in
     record {
       within = omega (arith, known, u, many);
       waits = subst (λ (xs : List Live). 0 < length xs) (sym front) (omega arith);
-      room = room_to k r places s x.unit (subst (λ (y : Live). KeptHasRoom k y.unit) same b.room);
+      room = room_to k r places s x.unit (subst (λ (y : Live). StoreHasRoom k y.unit) same b.room);
       best = λ v h room. (
           let f = found_at k r v h in
-          let rank = b.best f.place f.live (get_below k.waiting f.place f.live f.there) f.there (subst (KeptHasRoom k) (sym f.unit_is) (room_from k r places s v room)) in
+          let rank = b.best f.place f.live (get_below k.waiting f.place f.live f.there) f.there (subst (StoreHasRoom k) (sym f.unit_is) (room_from k r places s v room)) in
           subst (λ (w : ℕ). (depth_at k.shape w < depth_at k.shape x.unit) ⊎ ((depth_at k.shape w ≡ depth_at k.shape x.unit) × (x.unit ≤ w))) f.unit_is
           (subst (λ (y : Live). (depth_at k.shape f.live.unit < depth_at k.shape y.unit) ⊎ ((depth_at k.shape f.live.unit ≡ depth_at k.shape y.unit) × (y.unit ≤ f.live.unit))) same rank)
           );
@@ -189,9 +182,9 @@ whole_at (y ∷ xs) w zero x e = let q : y ≡ x = cc in subst (λ (z : Live). z
 whole_at (y ∷ xs) w (suc k) x e = whole_at xs w.1 k x e
 
 -- what the store chooses is the choice of the core
-pub chooses : (k : Kept) (r : Rest) (places : ℕ) (place : Place) (x : Live) → IsSound k (seen k r) places → Chooses k (Some place) → record_at k place ≡ Some x → IsChoice (seen k r) (thread_pending r.tickets x)
-chooses k r places (Waiting at) x s b e =
-    let l = lists_of k r places s in
+pub chooses : UnopenedIsWhole → (k : StoreView) (r : Rest) (places : ℕ) (place : Place) (x : Live) → IsSoundCore k (seen k r) places → Chooses k (Some place) → record_at k place ≡ Some x → IsChoice (seen k r) (thread_pending r.tickets x)
+chooses law k r places (Waiting at) x s b e =
+    let l = lists_of law k r places s in
     let same : b.live ≡ x = let t = b.there in cc in
     let known = at_each (λ (y : Live). y.unit < length k.shape.units) k.waiting l.waiting_known at x e in
     let later = at_each (λ (y : Live). nat_le k.handed y.number ≡ true) k.waiting l.waiting_later at x e in
@@ -199,14 +192,14 @@ chooses k r places (Waiting at) x s b e =
     let first = slots_first k.handed x.unit k.waiting at x e slot (λ i y h g q. b.first i y h g (q ∙ sym (ap (λ (z : Live). z.unit) same))) in
     let front = waiting_is k r x.unit known ∙ first in
     let rest = filter (in_slot k.handed x.unit) (drop (suc at) k.waiting) in
-    let pick = is_pick k r places at x s b same rest front in
+    let pick = is_pick law k r places at x s b same rest front in
     subst (IsChoice (seen k r)) (ap (pending_from r.tickets k.shape x.unit) front ∙ pending_is r.tickets k.shape s.threads x.unit x rest (whole_at k.waiting l.waiting_whole at x e) refl) (from_slots x.unit pick)
-chooses k r places FirstEntry x s b e = go k.entries refl
+chooses law k r places FirstEntry x s b e = go k.entries refl
   where
     go : (xs : List Live) → k.entries ≡ xs → IsChoice (seen k r) (thread_pending r.tickets x)
     go [] q = let z = ap (λ (xs : List Live). length xs) q in let some = b.1.0 in absurd (omega (arith, z, some))
     go (y ∷ xs) q =
-        let l = lists_of k r places s in
+        let l = lists_of law k r places s in
         let there : slice_get (y ∷ xs) 0 ≡ Some x = subst (λ (zs : List Live). slice_get zs 0 ≡ Some x) q e in
         let same : y ≡ x = cc in
         let entries : k.entries ≡ x ∷ xs = q ∙ ap (λ (z : Live). z ∷ xs) same in
@@ -218,7 +211,7 @@ chooses k r places FirstEntry x s b e = go k.entries refl
         ∙ pending_is r.tickets k.shape s.threads x.unit x _ (whole_at k.entries l.entries_whole 0 x e) refl in
         subst (IsChoice (seen k r)) next (from_entries (no_pick k r places s b.0) can)
 
-pub chooses_none : (k : Kept) (r : Rest) (places : ℕ) → IsSound k (seen k r) places → Chooses k None → NoChoice (seen k r)
+pub chooses_none : (k : StoreView) (r : Rest) (places : ℕ) → IsSoundCore k (seen k r) places → Chooses k None → NoChoice (seen k r)
 chooses_none k r places s none =
     record {
       unpicked = no_pick k r places s none.0;
@@ -226,39 +219,39 @@ chooses_none k r places s none =
     }
 
 -- with nothing out, an empty bag leaves the store bare
-bare_of : (k : Kept) (r : Rest) (places : ℕ) → (s : IsSound k (seen k r) places) → r.outs ≡ [] → s.bag ≡ [] → IsBare k
+bare_of : (k : StoreView) (r : Rest) (places : ℕ) → (s : IsSoundCore k (seen k r) places) → r.outs ≡ [] → s.bag ≡ [] → IsBare k
 bare_of k r places s none empty =
     let u : unopened r.outs s.bag ≡ [] = ap (λ (os : List Pending). unopened os s.bag) none ∙ empty in
     record {
       waiting = s.waiting ∙ ap (filter (is_in_slot k.handed)) u;
-      entries = s.placed.entries ∙ ap (filter (is_entry k.handed)) u;
+      entries = s.placed.entries ∙ ap (filter (is_entry_record k.handed)) u;
     }
 
 -- with nothing out, a store that is not bare chooses something
-pub unblocked : (k : Kept) (r : Rest) (places : ℕ) → IsSound k (seen k r) places → r.outs ≡ [] → (IsBare k → ⊥) → Chooses k None → ⊥
-unblocked k r places s none some chosen =
+pub unblocked : NeverBlocked → (k : StoreView) (r : Rest) (places : ℕ) → IsSoundCore k (seen k r) places → r.outs ≡ [] → (IsBare k → ⊥) → Chooses k None → ⊥
+unblocked law k r places s none some chosen =
     let nothing = chooses_none k r places s chosen in
-    nothing.unentered (never_blocks (seen k r) s.bag s.good s.wide s.placed none (λ e. some (bare_of k r places s none e)) nothing.unpicked)
+    nothing.unentered (law (seen k r) s.bag s.good s.wide s.placed none (λ e. some (bare_of k r places s none e)) nothing.unpicked)
 
 each_of : (P Q : Live → Type 0) (xs : List Live) → ((x : Live) → P x → Q x) → Each P xs → Each Q xs
 each_of P Q [] f e = tt
 each_of P Q (x ∷ xs) f e = (f x e.0, each_of P Q xs f e.1)
 
 -- what the store leaves is what the launch leaves
-pub record Leaves (k : Kept) (place : Place) (x : Live) : Type 0 where
+pub record Leaves (k : StoreView) (place : Place) (x : Live) : Type 0 where
   pub waiting : (without k place).waiting ≡ left_after (x.number ∷ []) origin k.waiting
   pub entries : (without k place).entries ≡ left_after (x.number ∷ []) origin k.entries
 
-pub leaves : (k : Kept) (r : Rest) (places : ℕ) (place : Place) (x : Live) → IsSound k (seen k r) places → record_at k place ≡ Some x → Leaves k place x
-leaves k r places (Waiting at) x s e =
-    let l = lists_of k r places s in
+pub leaves : UnopenedIsWhole → (k : StoreView) (r : Rest) (places : ℕ) (place : Place) (x : Live) → IsSoundCore k (seen k r) places → record_at k place ≡ Some x → Leaves k place x
+leaves law k r places (Waiting at) x s e =
+    let l = lists_of law k r places s in
     let later = at_each (λ (y : Live). nat_le k.handed y.number ≡ true) k.waiting l.waiting_later at x e in
     record {
       waiting = sym (left_one 0 r.next k.waiting at x l.waiting_rises l.waiting_whole e);
       entries = sym (left_other x.number origin k.entries (each_of (λ (y : Live). nat_le (y.number + 1) k.handed ≡ true) (λ (y : Live). (x.number == y.number) ≡ false) k.entries (λ y f. grind (arith, nat_tests)) l.entries_earlier));
     }
-leaves k r places FirstEntry x s e =
-    let l = lists_of k r places s in
+leaves law k r places FirstEntry x s e =
+    let l = lists_of law k r places s in
     let earlier = at_each (λ (y : Live). nat_le (y.number + 1) k.handed ≡ true) k.entries l.entries_earlier 0 x e in
     record {
       waiting = sym (left_other x.number origin k.waiting (each_of (λ (y : Live). nat_le k.handed y.number ≡ true) (λ (y : Live). (x.number == y.number) ≡ false) k.waiting (λ y f. grind (arith, nat_tests)) l.waiting_later));
@@ -270,41 +263,40 @@ leaves k r places FirstEntry x s e =
     go (y ∷ xs) f = refl
 
 -- the view after a launch was opened
-pub opened_view : (k l : Kept) (r : Rest) (places : ℕ) (place : Place) (x : Live) → IsSound k (seen k r) places → record_at k place ≡ Some x → Takes k l place x.unit → now_of l r.limits r.journal r.next (r.outs ++ thread_pending r.tickets x ∷ []) (r.tickets + 1) r.denied r.peak r.stopped ≡ with_out (seen k r) (thread_pending r.tickets x)
-opened_view k l r places place x s e op =
+pub opened_view : OpeningLaws → (k l : StoreView) (r : Rest) (places : ℕ) (place : Place) (x : Live) → IsSoundCore k (seen k r) places → record_at k place ≡ Some x → StoreOpens k l place x.unit → view_of l r.limits r.journal r.next (r.outs ++ thread_pending r.tickets x ∷ []) (r.tickets + 1) r.denied r.peak r.stopped ≡ with_out (seen k r) (thread_pending r.tickets x)
+opened_view laws k l r places place x s e op =
     let o = thread_pending r.tickets x in
     let n = length k.shape.units in
-    let left = leaves k r places place x s e in
+    let left = leaves laws.whole k r places place x s e in
     let core = with_out (seen k r) o in
-    ap (λ (m : Kept). now_of m r.limits r.journal r.next (r.outs ++ o ∷ []) (r.tickets + 1) r.denied r.peak r.stopped) op.lists
+    ap (λ (m : StoreView). view_of m r.limits r.journal r.next (r.outs ++ o ∷ []) (r.tickets + 1) r.denied r.peak r.stopped) op.lists
     ∙ same place left
   where
-    same : (p : Place) → Leaves k p x → now_of (record (without k p) { reserved = l.reserved }) r.limits r.journal r.next (r.outs ++ thread_pending r.tickets x ∷ []) (r.tickets + 1) r.denied r.peak r.stopped ≡ with_out (seen k r) (thread_pending r.tickets x)
+    same : (p : Place) → Leaves k p x → view_of (record (without k p) { reserved = l.reserved }) r.limits r.journal r.next (r.outs ++ thread_pending r.tickets x ∷ []) (r.tickets + 1) r.denied r.peak r.stopped ≡ with_out (seen k r) (thread_pending r.tickets x)
     same (Waiting at) left =
         ap (λ (ws : List Live). (let c : CoreView = record (with_out (seen k r) (thread_pending r.tickets x)) { waits = by_unit k.handed 0 (length k.shape.units) ws; entries = k.entries } in c)) left.waiting
-        ∙ ap (λ (ws : List (List Live)). (let c : CoreView = record (with_out (seen k r) (thread_pending r.tickets x)) { waits = ws; entries = k.entries } in c)) (sym (by_unit_left k.handed 0 (length k.shape.units) (x.number ∷ []) origin k.waiting))
+        ∙ ap (λ (ws : List (List Live)). (let c : CoreView = record (with_out (seen k r) (thread_pending r.tickets x)) { waits = ws; entries = k.entries } in c)) (sym (by_unit_left laws.lists k.handed 0 (length k.shape.units) (x.number ∷ []) origin k.waiting))
         ∙ ap (λ (es : List Live). (let c : CoreView = record (with_out (seen k r) (thread_pending r.tickets x)) { entries = es } in c)) left.entries
     same FirstEntry left =
         ap (λ (ws : List Live). (let c : CoreView = record (with_out (seen k r) (thread_pending r.tickets x)) { waits = by_unit k.handed 0 (length k.shape.units) ws; entries = drop 1 k.entries } in c)) left.waiting
-        ∙ ap (λ (ws : List (List Live)). (let c : CoreView = record (with_out (seen k r) (thread_pending r.tickets x)) { waits = ws; entries = drop 1 k.entries } in c)) (sym (by_unit_left k.handed 0 (length k.shape.units) (x.number ∷ []) origin k.waiting))
+        ∙ ap (λ (ws : List (List Live)). (let c : CoreView = record (with_out (seen k r) (thread_pending r.tickets x)) { waits = ws; entries = drop 1 k.entries } in c)) (sym (by_unit_left laws.lists k.handed 0 (length k.shape.units) (x.number ∷ []) origin k.waiting))
         ∙ ap (λ (es : List Live). (let c : CoreView = record (with_out (seen k r) (thread_pending r.tickets x)) { entries = es } in c)) left.entries
 
-waiting_of : (k l : Kept) (place : Place) (unit : ℕ) → Takes k l place unit → l.waiting ≡ (without k place).waiting
-waiting_of k l (Waiting at) unit op = ap (λ (m : Kept). m.waiting) op.lists
-waiting_of k l FirstEntry unit op = ap (λ (m : Kept). m.waiting) op.lists
+waiting_of : (k l : StoreView) (place : Place) (unit : ℕ) → StoreOpens k l place unit → l.waiting ≡ (without k place).waiting
+waiting_of k l (Waiting at) unit op = ap (λ (m : StoreView). m.waiting) op.lists
+waiting_of k l FirstEntry unit op = ap (λ (m : StoreView). m.waiting) op.lists
 
 -- a core that opens is sound
-pub opened_sound : (k l : Kept) (r : Rest) (places more : ℕ) (place : Place) (x : Live) → (s : IsSound k (seen k r) places) → record_at k place ≡ Some x → Takes k l place x.unit → IsChoice (seen k r) (thread_pending r.tickets x) → r.stopped ≡ None → length r.journal + length r.outs < r.limits.launches → length r.journal + length r.outs + 1 ≤ more → IsSound l (with_out (seen k r) (thread_pending r.tickets x)) more
-opened_sound k l r places more place x s e op choice running few room =
+pub opened_sound : OpeningLaws → (k l : StoreView) (r : Rest) (places more : ℕ) (place : Place) (x : Live) → (s : IsSoundCore k (seen k r) places) → record_at k place ≡ Some x → StoreOpens k l place x.unit → IsChoice (seen k r) (thread_pending r.tickets x) → r.stopped ≡ None → length r.journal + length r.outs < r.limits.launches → length r.journal + length r.outs + 1 ≤ more → IsSoundCore l (with_out (seen k r) (thread_pending r.tickets x)) more
+opened_sound laws k l r places more place x s e op choice running few room =
     let o = thread_pending r.tickets x in
     let core = seen k r in
-    let f = choice_fine core s.bag o s.good s.placed choice in
     let longer = length_push r.outs o in
-    let left = leaves k r places place x s e in
+    let left = leaves laws.whole k r places place x s e in
     record {
       bag = s.bag;
-      placed = opened_placed core s.bag o f.ticket few f.room f.inputs s.placed f.allowed;
-      waiting = waiting_of k l place x.unit op ∙ left.waiting ∙ ap (left_after (x.number ∷ []) origin) s.waiting ∙ those_left (λ u m. nat_le k.handed m) (x.number ∷ []) origin (unopened r.outs s.bag) ∙ ap (filter (is_in_slot k.handed)) (sym (unopened_append r.outs (o ∷ []) s.bag));
+      placed = laws.place core s.bag o s.good few s.placed choice;
+      waiting = waiting_of k l place x.unit op ∙ left.waiting ∙ ap (left_after (x.number ∷ []) origin) s.waiting ∙ laws.lists (λ u m. nat_le k.handed m) (x.number ∷ []) origin (unopened r.outs s.bag) ∙ ap (filter (is_in_slot k.handed)) (sym (laws.leave r.outs o s.bag));
       reserves = λ v. (
           let a = op.reserved v in
           let b = s.reserves v in

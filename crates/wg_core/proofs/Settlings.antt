@@ -14,33 +14,33 @@ use Rattle.wg_machine.specs.declared.launch.Record.{Record}
 use Rattle.wg_machine.specs.declared.launch.Sent.{Sent}
 use Rattle.wg_machine.specs.Buffers.{Buffers}
 use Rattle.wg_machine.specs.GoodShape.{IsGoodShape}
-use Rattle.wg_machine.specs.LaunchMeaning.{FitsShape, KeepsBudgets, KeepsLaws, Outcome}
+use Rattle.wg_machine.specs.LaunchMeaning.{Arrives, FitsShape, KeepsBudgets, KeepsLaws, Outcome}
 use Rattle.wg_machine.specs.Need.{need, need_of}
 use Rattle.wg_machine.specs.State.{born, kept}
 use Rattle.wg_machine.specs.Step.{Allows, IsReady, entry_of, is_among, left_after, numbers_of, record_of, taken}
 use Rattle.wg_machine.specs.Units.{kind_at, most_inputs}
-use Rattle.wg_core.specs.declared.pending.Pending.{Pending}
-use Rattle.wg_core.specs.Core.{CoreView}
-use Rattle.wg_core.specs.Inside.{IsSound, is_in_slot, now_of}
-use Rattle.wg_core.specs.Moves.{all_more, bytes_of, freed, is_still, settled_of, used_more}
-use Rattle.wg_core.specs.Outs.{AllAllowed, AllApart, after_one, numbers_out, unopened}
-use Rattle.wg_core.specs.Standing.{AllNamed, EachKnown, IsPlaced, by_unit, reserved}
-use Rattle.wg_core.specs.Store.{CanSettle, Kept, Settles, frees, thread_born}
-use Rattle.wg_core.specs.Tables.{SomeIsOut}
+use Rattle.wg_standing.specs.declared.pending.Pending.{Pending}
+use Rattle.wg_standing.specs.Core.{CoreView}
+use Rattle.wg_core.specs.Inside.{IsSoundCore, is_in_slot, view_of}
+use Rattle.wg_standing.specs.Moves.{all_more, slot_bytes, freed, is_still, settled_of, used_more}
+use Rattle.wg_standing.specs.Outs.{AllAllowed, after_one, numbers_out, unopened}
+use Rattle.wg_standing.specs.Standing.{AllNamed, IsPlaced, by_unit, reserved}
+use Rattle.wg_standing.specs.Laws.{OutsFit, SettlingsFree, SettlingsLeave, SettlingsPlace, TakenStay}
+use Rattle.wg_core.specs.Store.{CanSettle, StoreView, StoreSettles, frees, thread_born}
+use Rattle.wg_standing.specs.Idle.{SomeIsOut}
 use Rattle.wg_core.proofs.Bounds.{sent_few}
-use Rattle.wg_core.proofs.Commute.{append_nil, unopened_both, unopened_settled}
-use Rattle.wg_core.proofs.Counting.{count_cons, opposite, pay}
-use Rattle.wg_core.proofs.Fitting.{out_fits}
-use Rattle.wg_core.proofs.Fronts.{EachWhole}
-use Rattle.wg_core.proofs.Grids.{distinct_born}
-use Rattle.wg_core.proofs.Lists.{by_unit_append, those_append}
+use Rattle.wg_core.proofs.Fronts.{EachWhole, numbers}
+use Rattle.wg_core.proofs.Lists.{by_unit_append, count_cons, filter_append, pay, reserved_without}
 use Rattle.wg_core.proofs.Openings.{Rest, seen}
-use Rattle.wg_core.proofs.OutLess.{KeepsNeeds, freed_are, reserved_without, settled_placed}
-use Rattle.wg_core.proofs.Outs.{all_without, allowed_settled, apart_settled, numbers_taken, one_of, unopened_new}
-use Rattle.wg_core.proofs.Rising.{numbers, rises_born, rises_kept}
-use Rattle.wg_core.proofs.Slots.{used_at}
-use Rattle.wg_core.proofs.Still.{known_left, still}
 use Rattle.wg_core.proofs.Threads.{born_is, each_whole, gone, thread_kind}
+
+-- the laws of the relation by which a core settles
+pub record SettlingLaws : Type 0 where
+  pub fit : OutsFit
+  pub place : SettlingsPlace
+  pub leave : SettlingsLeave
+  pub free : SettlingsFree
+  pub stay : TakenStay
 
 pub parted : (outs : List Pending) (i : ℕ) (o : Pending) → slice_get outs i ≡ Some o → outs ≡ take i outs ++ o ∷ drop (suc i) outs
 parted [] i o e = absurd (cc)
@@ -75,7 +75,8 @@ node_there (n ∷ units) (suc u) h = let r = node_there units u (omega arith) in
 
 -- what a launch sends is within its needs, and few
 pub record SendsFew (shape : Shape) (unit : ℕ) (sent : List Sent) : Type 0 where
-  pub needs : KeepsNeeds shape unit sent
+  pub arrive : Each (Arrives shape) sent
+  pub few : (v : ℕ) → count_by (λ (s : Sent). s.unit == v) sent ≤ need shape unit v
   pub total : length sent ≤ 16384
 
 pub sends_few : NeedsAreKept → (shape : Shape) (l : Launch) (buffers : Buffers) (turns : ℕ) (o : Outcome) → IsGoodShape shape → FitsShape shape l → KeepsLaws shape l buffers turns o → SendsFew shape l.unit o.sent
@@ -84,10 +85,8 @@ sends_few law shape l buffers turns o good fits laws =
     let budgets = laws.budgets n.node n.there in
     let g = good.units l.unit n.node n.there in
     record {
-      needs = record {
-        arrive = laws.arrive;
-        few = λ v. subst (λ (m : ℕ). count_by (λ (s : Sent). s.unit == v) o.sent ≤ m) (sym (need_there shape l.unit v n.node n.there)) (law n.node o.sent v budgets);
-      };
+      arrive = laws.arrive;
+      few = λ v. subst (λ (m : ℕ). count_by (λ (s : Sent). s.unit == v) o.sent ≤ m) (sym (need_there shape l.unit v n.node n.there)) (law n.node o.sent v budgets);
       total = sent_few n.node o.sent g.few_outputs g.budgets budgets;
     }
   where
@@ -104,27 +103,13 @@ length_records : (xs : List Live) → length (map record_of xs) ≡ length xs
 length_records [] = refl
 length_records (x ∷ xs) = ap suc (length_records xs)
 
--- the bag that is left, on which the others stay allowed
-record Lesser (core : CoreView) (bag : List Live) (before : List Pending) (o : Pending) (later : List Pending) : Type 0 where
-  pub mine : Allows core.shape bag o.launch o.at
-  pub alone : AllAllowed core.shape (after_one o bag) (before ++ later)
-  pub ready : unopened core.outs bag ≡ unopened (before ++ later) (after_one o bag)
-  pub waits : core.waits ≡ by_unit core.handed 0 (length core.shape.units) (unopened (before ++ later) (after_one o bag))
+one_of : (shape : Shape) (bag : List Live) (xs : List Pending) (o : Pending) (ys : List Pending) → AllAllowed shape bag (xs ++ o ∷ ys) → Allows shape bag o.launch o.at
+one_of shape bag [] o ys all = all.0
+one_of shape bag (x ∷ xs) o ys all = one_of shape bag xs o ys all.1
 
-lesser : (core : CoreView) (bag : List Live) (before : List Pending) (o : Pending) (later : List Pending) → core.outs ≡ before ++ o ∷ later → IsPlaced core bag → Lesser core bag before o later
-lesser core bag before o later was_out s =
-    let rest = before ++ later in
-    let all = subst (AllAllowed core.shape bag) was_out s.allowed in
-    let others = all_without core.shape bag before o later all in
-    let apart = apart_settled before o later (subst AllApart was_out s.apart) in
-    let nothing = allowed_settled core.shape core.next core.next bag [] o rest s.rises (let z : core.next ≤ core.next = omega arith in z) apart.0 others in
-    let ready : unopened core.outs bag ≡ unopened rest (after_one o bag) = ap (λ (os : List Pending). unopened os bag) was_out ∙ unopened_settled before o later bag in
-    record {
-      mine = one_of core.shape bag before o later all;
-      alone = subst (λ (b : List Live). AllAllowed core.shape b rest) (append_nil (after_one o bag)) nothing;
-      ready = ready;
-      waits = s.waits ∙ ap (by_unit core.handed 0 (length core.shape.units)) ready;
-    }
+numbers_taken : (xs : List Live) → numbers_of (map record_of xs) ≡ numbers xs
+numbers_taken [] = refl
+numbers_taken (x ∷ xs) = ap (λ (ns : List ℕ). x.number ∷ ns) (numbers_taken xs)
 
 not_still : (handed n : ℕ) (b : Bool) → (handed ≤ n → b ≡ false) → (nat_le handed n && (if b then false else true)) ≡ nat_le handed n
 not_still handed n b h = choice (nat_le handed n) refl
@@ -137,25 +122,22 @@ not_still handed n b h = choice (nat_le handed n) refl
 abbrev kind_most : CoreView → Pending → ℕ
 kind_most core o = most_inputs (kind_at core.shape o.launch.unit)
 
-known_after : (core : CoreView) (bag : List Live) (o : Pending) → IsPlaced core bag → EachKnown (length core.shape.units) (after_one o bag)
-known_after core bag o s = known_left (length core.shape.units) (numbers_out o) o.at bag s.known
-
 -- a launch of a thread unit frees the slots of its records
-thread_freed : (core : CoreView) (bag : List Live) (before : List Pending) (o : Pending) (later : List Pending) → core.outs ≡ before ++ o ∷ later → IsPlaced core bag → kind_most core o ≡ 1 → EachWhole bag → freed core o (before ++ later) ≡ count_by (λ n. nat_le core.handed n) (numbers_out o)
-thread_freed core bag before o later was_out s single whole =
+thread_freed : TakenStay → (core : CoreView) (bag : List Live) (before : List Pending) (o : Pending) (later : List Pending) → core.outs ≡ before ++ o ∷ later → IsPlaced core bag → kind_most core o ≡ 1 → EachWhole bag → freed core o (before ++ later) ≡ count_by (λ n. nat_le core.handed n) (numbers_out o)
+thread_freed law core bag before o later was_out s single whole =
     let rest = before ++ later in
-    let l = lesser core bag before o later was_out s in
+    let allowed = one_of core.shape bag before o later (subst (AllAllowed core.shape bag) was_out s.allowed) in
     let mine = taken (numbers_out o) bag in
-    let names : numbers_out o ≡ numbers mine = ap numbers_of l.mine.records ∙ numbers_taken mine in
-    let many = ap (λ (rs : List Record). length rs) l.mine.records ∙ length_records mine in
-    let some = l.mine.some in
-    let few = l.mine.few in
+    let names : numbers_out o ≡ numbers mine = ap numbers_of allowed.records ∙ numbers_taken mine in
+    let many = ap (λ (rs : List Record). length rs) allowed.records ∙ length_records mine in
+    let some = allowed.some in
+    let few = allowed.few in
     let one = one_number 0 (numbers_out o) mine names (omega (arith, many, some)) (omega (arith, many, few, single)) in
     let n = one.0 in
     let only : numbers_out o ≡ n ∷ [] = one.1 in
-    let ready = subst (λ (ns : List ℕ). Each (IsReady o.launch.unit o.at) (taken ns bag)) only l.mine.ready in
+    let ready = subst (λ (ns : List ℕ). Each (IsReady o.launch.unit o.at) (taken ns bag)) only allowed.ready in
     let out : is_among (numbers (after_one o bag)) n ≡ false = ap (λ (ns : List ℕ). is_among (numbers (left_after ns o.at bag)) n) only ∙ gone n o.launch.unit o.at 0 core.next bag s.rises whole ready in
-    let is : core.handed ≤ n → is_still core.waits rest n ≡ false = λ h. ap (λ (ws : List (List Live)). is_still ws rest n) l.waits ∙ still core.shape core.handed n rest (after_one o bag) h (known_after core bag o s) l.alone ∙ out in
+    let is : core.handed ≤ n → is_still core.waits rest n ≡ false = λ h. law core bag before o later n was_out s h ∙ out in
     let a = not_still core.handed n (is_still core.waits rest n) is in
     ap (λ (ns : List ℕ). count_by (λ m. nat_le core.handed m && (if is_still core.waits rest m then false else true)) ns) only
     ∙ count_cons (λ m. nat_le core.handed m && (if is_still core.waits rest m then false else true)) n []
@@ -163,42 +145,29 @@ thread_freed core bag before o later was_out s single whole =
     ∙ sym (count_cons (λ m. nat_le core.handed m) n [])
     ∙ ap (λ (ns : List ℕ). count_by (λ m. nat_le core.handed m) ns) (sym only)
 
--- the slots that are freed are in use
-freed_within : (core : CoreView) (bag : List Live) (before : List Pending) (o : Pending) (later : List Pending) → core.outs ≡ before ++ o ∷ later → IsPlaced core bag → o.launch.unit < length core.shape.units → freed core o (before ++ later) ≤ slice_index core.used o.launch.unit
-freed_within core bag before o later was_out s within =
-    let rest = before ++ later in
-    let l = lesser core bag before o later was_out s in
-    let u = o.launch.unit in
-    let gone_is = ap (λ (ws : List (List Live)). count_by (λ n. nat_le core.handed n && (if is_still ws rest n then false else true)) (numbers_out o)) l.waits in
-    let f = freed_are core.shape core.handed core.next u bag o rest s.rises s.known l.mine l.alone in
-    let self : (u == u) ≡ true = grind (arith, nat_tests) in
-    let p = ap (λ (b : Bool). pay b (count_by (λ n. nat_le core.handed n && opposite (is_still (by_unit core.handed 0 (length core.shape.units) (unopened rest (after_one o bag))) rest n)) (numbers_out o))) self in
-    let used = used_at core bag s u within in
-    omega (arith, gone_is, f, p, used)
-
 -- what a core that settles knows
-pub record Settling (k : Kept) (r : Rest) (before : List Pending) (o : Pending) (later : List Pending) : Type 0 where
+pub record Settling (k : StoreView) (r : Rest) (before : List Pending) (o : Pending) (later : List Pending) : Type 0 where
   pub fits : FitsShape k.shape o.launch
   pub frees_are : freed (seen k r) o (before ++ later) ≡ frees k.handed o
   pub frees_within : frees k.handed o ≤ slice_index k.used o.launch.unit
 
-pub settling : (k : Kept) (r : Rest) (places : ℕ) (before : List Pending) (o : Pending) (later : List Pending) → IsSound k (seen k r) places → r.outs ≡ before ++ o ∷ later → Settling k r before o later
-settling k r places before o later s was_out =
+pub settling : SettlingLaws → (k : StoreView) (r : Rest) (places : ℕ) (before : List Pending) (o : Pending) (later : List Pending) → IsSoundCore k (seen k r) places → r.outs ≡ before ++ o ∷ later → Settling k r before o later
+settling law k r places before o later s was_out =
     let core = seen k r in
-    let fits = out_fits core s.bag before o later s.good was_out s.placed in
+    let fits = law.fit core s.bag before o later s.good was_out s.placed in
     let named = named_at before o later (subst AllNamed was_out s.placed.inputs) in
     let single : kind_most core o ≡ 1 = ap most_inputs (thread_kind k.shape s.threads o.launch.unit) in
-    let freed_is = thread_freed core s.bag before o later was_out s.placed single (each_whole k.shape s.threads s.bag s.placed.full) ∙ ap (λ (ns : List ℕ). count_by (λ n. nat_le k.handed n) ns) (sym named) in
-    let within = freed_within core s.bag before o later was_out s.placed fits.unit in
+    let freed_is = thread_freed law.stay core s.bag before o later was_out s.placed single (each_whole k.shape s.threads s.bag s.placed.full) ∙ ap (λ (ns : List ℕ). count_by (λ n. nat_le k.handed n) ns) (sym named) in
+    let within = law.free core s.bag before o later s.good was_out s.placed in
     record { fits = fits; frees_are = freed_is; frees_within = omega (arith, freed_is, within) }
 
 -- the store can settle what was sent
-pub can_settle : (k : Kept) (r : Rest) (places : ℕ) (before : List Pending) (o : Pending) (later : List Pending) (sent : List Sent) → IsSound k (seen k r) places → r.outs ≡ before ++ o ∷ later → SendsFew k.shape o.launch.unit sent → CanSettle k o r.next sent
-can_settle k r places before o later sent s was_out few =
-    let t = settling k r places before o later s was_out in
+pub can_settle : SettlingLaws → (k : StoreView) (r : Rest) (places : ℕ) (before : List Pending) (o : Pending) (later : List Pending) (sent : List Sent) → IsSoundCore k (seen k r) places → r.outs ≡ before ++ o ∷ later → SendsFew k.shape o.launch.unit sent → CanSettle k o r.next sent
+can_settle law k r places before o later sent s was_out few =
+    let t = settling law k r places before o later s was_out in
     record {
-      arrive = few.needs.arrive;
-      few = few.needs.few;
+      arrive = few.arrive;
+      few = few.few;
       total = few.total;
       reserves = λ v. (
           let a = s.reserves v in
@@ -212,13 +181,13 @@ can_settle k r places before o later sent s was_out few =
     }
 
 -- the view after a launch was settled
-pub settled_view : (k l : Kept) (r : Rest) (places : ℕ) (before : List Pending) (o : Pending) (later : List Pending) (outcome : Outcome) → IsSound k (seen k r) places → r.outs ≡ before ++ o ∷ later → outcome.buffers ≡ [] → Settles k l o r.next outcome.sent → now_of l r.limits (r.journal ++ entry_of o.launch o.at r.next outcome ∷ []) (r.next + length outcome.sent) (before ++ later) r.tickets (r.denied + outcome.denied) (max r.peak (bytes_of l.shape 0 l.used)) r.stopped ≡ settled_of (seen k r) before o later outcome
-settled_view k l r places before o later outcome s was_out none op =
+pub settled_view : SettlingLaws → (k l : StoreView) (r : Rest) (places : ℕ) (before : List Pending) (o : Pending) (later : List Pending) (outcome : Outcome) → IsSoundCore k (seen k r) places → r.outs ≡ before ++ o ∷ later → outcome.buffers ≡ [] → StoreSettles k l o r.next outcome.sent → view_of l r.limits (r.journal ++ entry_of o.launch o.at r.next outcome ∷ []) (r.next + length outcome.sent) (before ++ later) r.tickets (r.denied + outcome.denied) (max r.peak (slot_bytes l.shape 0 l.used)) r.stopped ≡ settled_of (seen k r) before o later outcome
+settled_view law k l r places before o later outcome s was_out none op =
     let n = length k.shape.units in
-    let t = settling k r places before o later s was_out in
+    let t = settling law k r places before o later s was_out in
     let fresh = thread_born r.next outcome.sent in
     let fresh_is : fresh ≡ flat_map kept (born k.shape r.next outcome.sent) = sym (born_is k.shape s.threads r.next outcome.sent) in
-    ap (λ (m : Kept). now_of m r.limits (r.journal ++ entry_of o.launch o.at r.next outcome ∷ []) (r.next + length outcome.sent) (before ++ later) r.tickets (r.denied + outcome.denied) (max r.peak (bytes_of m.shape 0 m.used)) r.stopped) op.lists
+    ap (λ (m : StoreView). view_of m r.limits (r.journal ++ entry_of o.launch o.at r.next outcome ∷ []) (r.next + length outcome.sent) (before ++ later) r.tickets (r.denied + outcome.denied) (max r.peak (slot_bytes m.shape 0 m.used)) r.stopped) op.lists
     ∙ ap (λ (ws : List (List Live)). after ws (used_more k.handed 0 o.launch.unit (frees k.handed o) fresh k.used) []) (sym (by_unit_append k.handed 0 n k.waiting fresh))
     ∙ ap (λ (g : ℕ). after (all_more k.handed 0 fresh (by_unit k.handed 0 n k.waiting)) (used_more k.handed 0 o.launch.unit g fresh k.used) []) (sym t.frees_are)
     ∙ ap (λ (fs : List Live). after (all_more k.handed 0 fs (by_unit k.handed 0 n k.waiting)) (used_more k.handed 0 o.launch.unit (freed (seen k r) o (before ++ later)) fs k.used) []) fresh_is
@@ -234,7 +203,7 @@ settled_view k l r places before o later outcome s was_out none op =
           used = us;
           outs = before ++ later;
           denied = r.denied + outcome.denied;
-          peak = max r.peak (bytes_of k.shape 0 us);
+          peak = max r.peak (slot_bytes k.shape 0 us);
         }
 
 all_later : (handed n : ℕ) (sent : List Sent) → handed ≤ n → filter (is_in_slot handed) (thread_born n sent) ≡ thread_born n sent
@@ -256,8 +225,8 @@ entry_few next n = choice (n == 0)
     choice false = omega arith
 
 -- a core that settles is sound
-pub settled_sound : (k l : Kept) (r : Rest) (places : ℕ) (before : List Pending) (o : Pending) (later : List Pending) (outcome : Outcome) → (s : IsSound k (seen k r) places) → r.outs ≡ before ++ o ∷ later → r.stopped ≡ None → SendsFew k.shape o.launch.unit outcome.sent → outcome.denied < 2 ^ 32 → Settles k l o r.next outcome.sent → IsSound l (settled_of (seen k r) before o later outcome) places
-settled_sound k l r places before o later outcome s was_out running few denied op =
+pub settled_sound : SettlingLaws → (k l : StoreView) (r : Rest) (places : ℕ) (before : List Pending) (o : Pending) (later : List Pending) (outcome : Outcome) → (s : IsSoundCore k (seen k r) places) → r.outs ≡ before ++ o ∷ later → r.stopped ≡ None → SendsFew k.shape o.launch.unit outcome.sent → KeepsLaws k.shape o.launch [] r.limits.turns outcome → outcome.denied < 2 ^ 32 → StoreSettles k l o r.next outcome.sent → IsSoundCore l (settled_of (seen k r) before o later outcome) places
+settled_sound law k l r places before o later outcome s was_out running few laws denied op =
     let core = seen k r in
     let sent = outcome.sent in
     let rest = before ++ later in
@@ -268,19 +237,17 @@ settled_sound k l r places before o later outcome s was_out running few denied o
     let longer = length_push r.journal entry in
     let fewer = length_without before o later in
     let were = ap (λ (os : List Pending). length os) was_out in
-    let lesser_is = lesser core s.bag before o later was_out s.placed in
-    let others = all_without k.shape s.bag before o later (subst (AllAllowed k.shape s.bag) was_out s.placed.allowed) in
-    let more : unopened rest (less ++ fresh) ≡ unopened rest less ++ fresh = unopened_both rest less fresh ∙ ap (λ (b : List Live). unopened rest less ++ b) (unopened_new k.shape r.next end s.bag fresh rest s.placed.rises (rises_kept r.next end (born k.shape r.next sent) (rises_born k.shape r.next sent)) others) in
+    let more : unopened rest (less ++ fresh) ≡ unopened r.outs s.bag ++ fresh = law.leave core s.bag before o later sent was_out s.placed in
     let fresh_is : fresh ≡ thread_born r.next sent = born_is k.shape s.threads r.next sent in
     let slots : filter (is_in_slot k.handed) fresh ≡ thread_born r.next sent = ap (filter (is_in_slot k.handed)) fresh_is ∙ all_later k.handed r.next sent s.placed.handed in
     record {
       bag = less ++ fresh;
-      placed = settled_placed core s.bag before o later outcome was_out few.needs (distinct_born k.shape r.next sent) s.placed;
+      placed = law.place core s.bag before o later outcome s.good was_out laws s.placed;
       waiting =
-          ap (λ (m : Kept). m.waiting) op.lists
-          ∙ ap (λ (ws : List Live). ws ++ thread_born r.next sent) (s.waiting ∙ ap (filter (is_in_slot k.handed)) lesser_is.ready)
-          ∙ ap (λ (ws : List Live). filter (is_in_slot k.handed) (unopened rest less) ++ ws) (sym slots)
-          ∙ sym (those_append (λ u m. nat_le k.handed m) (unopened rest less) fresh)
+          ap (λ (m : StoreView). m.waiting) op.lists
+          ∙ ap (λ (ws : List Live). ws ++ thread_born r.next sent) s.waiting
+          ∙ ap (λ (ws : List Live). filter (is_in_slot k.handed) (unopened r.outs s.bag) ++ ws) (sym slots)
+          ∙ sym (filter_append (is_in_slot k.handed) (unopened r.outs s.bag) fresh)
           ∙ ap (filter (is_in_slot k.handed)) (sym more);
       reserves = λ v. (
           let a = op.reserved v in

@@ -1,14 +1,12 @@
 -- Counts of slots by unit, changed one at a time.
-use Rattle.std.proofs.Common.{◌≡◌, ◌≢◌, ℕ, zero, suc, ◌+◌, ◌-◌, ◌*◌, ◌<◌, ◌≤◌, Bool, true, false, List, [], ◌∷◌, ◌++◌, length, refl, ap, sym, ◌∙◌, subst, arith, drop, take, get_or, set, drop-cons}
+use Rattle.std.proofs.Common.{◌≡◌, ◌≢◌, ℕ, zero, suc, ◌+◌, ◌-◌, ◌*◌, ◌<◌, ◌≤◌, Bool, true, false, List, [], ◌∷◌, ◌++◌, length, refl, ap, sym, ◌∙◌, subst, arith, drop, take, get_or, set}
 use Rattle.std.specs.Prelude.{◌==◌, ◌&&◌, nat_le, count_by, slice_index}
 use Rattle.std.proofs.lemmas.Bool.Decides.{nat_tests}
 use Rattle.wg_words.specs.Each.{Each}
-use Rattle.wg_machine.specs.declared.shape.Shape.{Shape}
 use Rattle.wg_machine.specs.declared.launch.Live.{Live}
-use Rattle.wg_machine.specs.Units.{stride_at}
-use Rattle.wg_core.specs.Moves.{bytes_of, used_more}
-use Rattle.wg_core.specs.Standing.{in_slot}
-use Rattle.wg_core.proofs.Counting.{count_cons, count_append, pay}
+use Rattle.wg_standing.specs.Moves.{used_more}
+use Rattle.wg_standing.specs.Standing.{in_slot}
+use Rattle.wg_core.proofs.Lists.{count_cons, count_append, pay}
 
 -- past its end a list has 0
 pub past_end : (xs : List ℕ) (k : ℕ) → length xs ≤ k → slice_index xs k ≡ 0

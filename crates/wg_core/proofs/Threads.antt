@@ -15,13 +15,11 @@ use Rattle.wg_machine.specs.Grids.{grid_of, groups_of, place_of, has_group, same
 use Rattle.wg_machine.specs.State.{born, kept}
 use Rattle.wg_machine.specs.Step.{IsReady, is_among, left_after, numbers_of, record_of, taken}
 use Rattle.wg_machine.specs.Units.{kind_at, most_inputs}
-use Rattle.wg_core.specs.declared.pending.Pending.{Pending}
-use Rattle.wg_core.specs.Choice.{pending_from}
-use Rattle.wg_core.specs.Standing.{EachFull, Rises, has_one_group, in_slot, origin}
+use Rattle.wg_standing.specs.declared.pending.Pending.{Pending}
+use Rattle.wg_standing.specs.Choice.{pending_from}
+use Rattle.wg_standing.specs.Standing.{EachFull, Rises, has_one_group, in_slot, origin}
 use Rattle.wg_core.specs.Store.{AllThread, thread_born, thread_live, thread_pending}
-use Rattle.wg_core.proofs.Commute.{live_with, ran}
-use Rattle.wg_core.proofs.Fronts.{EachWhole, fronts_leave}
-use Rattle.wg_core.proofs.Rising.{numbers, among_none, rises_left}
+use Rattle.wg_core.proofs.Fronts.{EachWhole, among_none, fronts_leave, live_with, numbers, ran, rises_left}
 
 kind_thread : (units : List Node) → Each (λ (u : Node). u.kind ≡ Thread) units → (u : ℕ) → unwrap_or (option_map (λ (n : Node). n.kind) (slice_get units u)) Thread ≡ Thread
 kind_thread [] all u = refl

@@ -2,10 +2,10 @@
 use Rattle.std.specs.Prelude.{◌≡◌, ℕ, List, [], Option, Some, None, slice_get}
 use Rattle.wg_machine.specs.declared.launch.Launch.{Launch}
 use Rattle.wg_machine.specs.declared.launch.Limits.{Limits}
-use Rattle.wg_core.specs.declared.pending.Pending.{Pending}
+use Rattle.wg_standing.specs.declared.pending.Pending.{Pending}
 use Rattle.wg_core.specs.declared.report.End.{End}
 use Rattle.wg_core.specs.declared.report.End.TheVariants as ended
-use Rattle.wg_core.specs.Store.{IsBare, Kept}
+use Rattle.wg_core.specs.Store.{IsBare, StoreView}
 
 -- the launch is out with this ticket
 pub record IsLaunchOut (outs : List Pending) (ticket : ℕ) (launch : Launch) : Type 0 where
@@ -15,7 +15,7 @@ pub record IsLaunchOut (outs : List Pending) (ticket : ℕ) (launch : Launch) : 
   pub named : pending.ticket ≡ ticket
   pub launch_is : launch ≡ pending.launch
 
-abbrev pub EndIs : Kept → List Pending → Option ℕ → ℕ → Limits → End → Type 0
+abbrev pub EndIs : StoreView → List Pending → Option ℕ → ℕ → Limits → End → Type 0
 EndIs k outs stopped journal limits (ended.Turns launch) = (ticket : ℕ) × (stopped ≡ Some ticket) × IsLaunchOut outs ticket launch
 EndIs k outs stopped journal limits ended.Complete = (stopped ≡ None) × (outs ≡ []) × IsBare k
 EndIs k outs stopped journal limits ended.Launches = (stopped ≡ None) × ((outs ≡ []) × IsBare k → ⊥) × (outs ≡ []) × (journal ≡ limits.launches)

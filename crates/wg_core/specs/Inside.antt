@@ -5,16 +5,16 @@ use Rattle.wg_machine.specs.declared.launch.Entry.{Entry}
 use Rattle.wg_machine.specs.declared.launch.Limits.{Limits}
 use Rattle.wg_machine.specs.declared.launch.Live.{Live}
 use Rattle.wg_machine.specs.GoodShape.{IsGoodShape}
-use Rattle.wg_core.specs.declared.pending.Pending.{Pending}
-use Rattle.wg_core.specs.Core.{CoreView}
-use Rattle.wg_core.specs.Outs.{unopened}
-use Rattle.wg_core.specs.Standing.{IsPlaced, by_unit, reserved}
-use Rattle.wg_core.specs.Store.{Kept, AllThread}
-use Rattle.wg_core.specs.Tables.{SomeIsOut}
+use Rattle.wg_standing.specs.declared.pending.Pending.{Pending}
+use Rattle.wg_standing.specs.Core.{CoreView}
+use Rattle.wg_standing.specs.Outs.{unopened}
+use Rattle.wg_standing.specs.Standing.{IsPlaced, by_unit, reserved}
+use Rattle.wg_core.specs.Store.{StoreView, AllThread}
+use Rattle.wg_standing.specs.Idle.{SomeIsOut}
 
 -- what contracts see, of a store and the other fields
-abbrev pub now_of : Kept → Limits → List Entry → ℕ → List Pending → ℕ → ℕ → ℕ → Option ℕ → CoreView
-now_of k limits journal next outs tickets denied peak stopped =
+abbrev pub view_of : StoreView → Limits → List Entry → ℕ → List Pending → ℕ → ℕ → ℕ → Option ℕ → CoreView
+view_of k limits journal next outs tickets denied peak stopped =
     record {
       shape = k.shape;
       width = k.width;
@@ -37,7 +37,7 @@ abbrev pub is_in_slot : ℕ → Live → Bool
 is_in_slot handed x = nat_le handed x.number
 
 -- what every core keeps
-pub record IsSound (k : Kept) (core : CoreView) (places : ℕ) : Type 0 where
+pub record IsSoundCore (k : StoreView) (core : CoreView) (places : ℕ) : Type 0 where
   pub bag : List Live
   pub placed : IsPlaced core bag
   -- the store's list is what waits in slots, and its reserves are those of the launches out

@@ -1,10 +1,5 @@
-pub mod Choice
-pub mod Core
 pub mod Ending
 pub mod Inside
-pub mod Moves
-pub mod Outs
-pub mod Standing
 pub mod Store
 pub mod StoreInside
 pub mod Tables

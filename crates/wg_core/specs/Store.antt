@@ -13,12 +13,12 @@ use Rattle.wg_machine.specs.Need.{need, need_of, most}
 use Rattle.wg_machine.specs.Step.{record_of}
 use Rattle.wg_machine.specs.Units.{depth_at}
 use Rattle.wg_core.specs.declared.needs.Needs.{Needs}
-use Rattle.wg_core.specs.declared.pending.Pending.{Pending}
+use Rattle.wg_standing.specs.declared.pending.Pending.{Pending}
 use Rattle.wg_core.specs.declared.store.Place.{Place}
 use Rattle.wg_core.specs.declared.store.Place.TheVariants.{Waiting, Entry}
-use Rattle.wg_core.specs.Choice.{first_unit}
-use Rattle.wg_core.specs.Moves.{used_more}
-use Rattle.wg_core.specs.Standing.{origin}
+use Rattle.wg_standing.specs.Choice.{first_unit}
+use Rattle.wg_standing.specs.Moves.{used_more}
+use Rattle.wg_standing.specs.Standing.{origin}
 
 -- each unit is a thread node
 abbrev pub AllThread : Shape → Type 0
@@ -30,7 +30,7 @@ pub record IsNeeds (shape : Shape) (needs : Needs) : Type 0 where
   pub most : needs.most ≡ map (most shape) (range_with_len 0 (length shape.units))
 
 -- the lists of a store
-pub record Kept : Type 0 where
+pub record StoreView : Type 0 where
   pub shape : Shape
   pub width : ℕ
   pub handed : ℕ
@@ -59,8 +59,8 @@ thread_pending ticket x =
     }
 
 -- a store at the start of a script
-abbrev pub kept_begun : Shape → ℕ → List Sent → Kept
-kept_begun shape width script =
+abbrev pub begun_store : Shape → ℕ → List Sent → StoreView
+begun_store shape width script =
     record {
       shape = shape;
       width = width;
@@ -72,12 +72,12 @@ kept_begun shape width script =
     }
 
 -- nothing waits
-pub record IsBare (k : Kept) : Type 0 where
+pub record IsBare (k : StoreView) : Type 0 where
   pub waiting : k.waiting ≡ []
   pub entries : k.entries ≡ []
 
-abbrev pub KeptHasRoom : Kept → ℕ → Type 0
-KeptHasRoom k u = HasRoom k.shape k.width (slice_index k.used) (slice_index k.reserved) u
+abbrev pub StoreHasRoom : StoreView → ℕ → Type 0
+StoreHasRoom k u = HasRoom k.shape k.width (slice_index k.used) (slice_index k.reserved) u
 
 -- a launch of the unit is opened before one of the other: it is deeper, or as deep with the lesser number
 abbrev pub ComesBefore : Shape → ℕ → ℕ → Type 0
@@ -89,43 +89,43 @@ pub record ArrivesIn (handed units : ℕ) (x : Live) : Type 0 where
   pub unit : x.unit < units
 
 -- of the first records that wait, so many, none has a unit with room
-abbrev pub NoneBelow : Kept → ℕ → Type 0
-NoneBelow k n = (i : ℕ) (x : Live) → i < n → slice_get k.waiting i ≡ Some x → KeptHasRoom k x.unit → ⊥
+abbrev pub NoneBelow : StoreView → ℕ → Type 0
+NoneBelow k n = (i : ℕ) (x : Live) → i < n → slice_get k.waiting i ≡ Some x → StoreHasRoom k x.unit → ⊥
 
 -- of the first records that wait, so many, the first of the deepest unit with room, then of the least unit
-pub record IsBestBelow (k : Kept) (n at : ℕ) : Type 0 where
+pub record IsBestBelow (k : StoreView) (n at : ℕ) : Type 0 where
   pub live : Live
   pub within : at < n
   pub there : slice_get k.waiting at ≡ Some live
-  pub room : KeptHasRoom k live.unit
+  pub room : StoreHasRoom k live.unit
   pub first : (i : ℕ) (x : Live) → i < at → slice_get k.waiting i ≡ Some x → x.unit ≢ live.unit
-  pub best : (i : ℕ) (x : Live) → i < n → slice_get k.waiting i ≡ Some x → KeptHasRoom k x.unit
+  pub best : (i : ℕ) (x : Live) → i < n → slice_get k.waiting i ≡ Some x → StoreHasRoom k x.unit
       → (depth_at k.shape x.unit < depth_at k.shape live.unit) ⊎ ((depth_at k.shape x.unit ≡ depth_at k.shape live.unit) × (live.unit ≤ x.unit))
 
-abbrev pub BestBelow : Kept → ℕ → Option ℕ → Type 0
+abbrev pub BestBelow : StoreView → ℕ → Option ℕ → Type 0
 BestBelow k n None = NoneBelow k n
 BestBelow k n (Some at) = IsBestBelow k n at
 
-abbrev pub EntryHasRoom : Kept → Type 0
-EntryHasRoom k = (0 < length k.entries) × KeptHasRoom k (first_unit k.entries)
+abbrev pub EntryHasRoom : StoreView → Type 0
+EntryHasRoom k = (0 < length k.entries) × StoreHasRoom k (first_unit k.entries)
 
 -- where the record of the next launch stands
-abbrev pub Chooses : Kept → Option Place → Type 0
+abbrev pub Chooses : StoreView → Option Place → Type 0
 Chooses k None = NoneBelow k (length k.waiting) × (EntryHasRoom k → ⊥)
 Chooses k (Some (Waiting at)) = IsBestBelow k (length k.waiting) at
 Chooses k (Some Entry) = NoneBelow k (length k.waiting) × EntryHasRoom k
 
-abbrev pub record_at : Kept → Place → Option Live
+abbrev pub record_at : StoreView → Place → Option Live
 record_at k (Waiting at) = slice_get k.waiting at
 record_at k Entry = slice_get k.entries 0
 
 -- the lists after a record was taken from its place
-abbrev pub without : Kept → Place → Kept
+abbrev pub without : StoreView → Place → StoreView
 without k (Waiting at) = record k { waiting = remove k.waiting at }
 without k Entry = record k { entries = drop 1 k.entries }
 
 -- the lists after a launch of a record of the unit was opened
-pub record Takes (old new : Kept) (place : Place) (unit : ℕ) : Type 0 where
+pub record StoreOpens (old new : StoreView) (place : Place) (unit : ℕ) : Type 0 where
   pub lists : new ≡ record (without old place) { reserved = new.reserved }
   pub reserved : (v : ℕ) → slice_index new.reserved v ≡ slice_index old.reserved v + need old.shape unit v
 
@@ -134,12 +134,12 @@ abbrev pub frees : ℕ → Pending → ℕ
 frees handed o = count_by (λ n. nat_le handed n) o.inputs
 
 -- the lists after a launch was settled, with what it sent
-pub record Settles (old new : Kept) (o : Pending) (next : ℕ) (sent : List Sent) : Type 0 where
+pub record StoreSettles (old new : StoreView) (o : Pending) (next : ℕ) (sent : List Sent) : Type 0 where
   pub lists : new ≡ record old { waiting = old.waiting ++ thread_born next sent; used = used_more old.handed 0 o.launch.unit (frees old.handed o) (thread_born next sent) old.used; reserved = new.reserved }
   pub reserved : (v : ℕ) → slice_index new.reserved v + need old.shape o.launch.unit v ≡ slice_index old.reserved v
 
 -- what was sent has slots: it is within the needs that were reserved
-pub record CanSettle (k : Kept) (o : Pending) (next : ℕ) (sent : List Sent) : Type 0 where
+pub record CanSettle (k : StoreView) (o : Pending) (next : ℕ) (sent : List Sent) : Type 0 where
   pub arrive : Each (Arrives k.shape) sent
   pub few : (v : ℕ) → count_by (λ (s : Sent). s.unit == v) sent ≤ need k.shape o.launch.unit v
   pub total : length sent ≤ 16384

@@ -3,10 +3,10 @@ use Rattle.std.specs.Prelude.{◌≡◌, ℕ, ◌+◌, ◌*◌, ◌≤◌, lengt
 use Rattle.wg_machine.specs.GoodShape.{IsGoodShape}
 use Rattle.wg_machine.specs.Need.{most}
 use Rattle.wg_core.specs.declared.store.Store.TheInside.{Inside}
-use Rattle.wg_core.specs.Store.{Kept, AllThread, IsNeeds}
+use Rattle.wg_core.specs.Store.{StoreView, AllThread, IsNeeds}
 
-abbrev pub kept_of : Inside → Kept
-kept_of s =
+abbrev pub store_view : Inside → StoreView
+store_view s =
     record {
       shape = s.shape;
       width = s.width;

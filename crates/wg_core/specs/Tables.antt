@@ -1,7 +1,5 @@
 -- What the calls of a core answer, and what they leave. This project's own.
-use Rattle.std.specs.Prelude.{◌≡◌, ◌≢◌, ◌⊎◌, ℕ, ◌<◌, ◌+◌, List, [], ◌∷◌, ◌++◌, length, Some, None}
-use Rattle.wg_words.specs.Each.{Each}
-use Rattle.wg_machine.specs.declared.launch.Live.{Live}
+use Rattle.std.specs.Prelude.{◌≡◌, ◌≢◌, ◌⊎◌, ℕ, ◌<◌, ◌+◌, List, [], length, Some, None}
 use Rattle.wg_machine.specs.LaunchMeaning.{Meaning}
 use Rattle.wg_core.specs.declared.engine.Opened.{Opened}
 use Rattle.wg_core.specs.declared.engine.Opened.TheVariants as opened
@@ -9,21 +7,12 @@ use Rattle.wg_core.specs.declared.engine.Settled.{Settled}
 use Rattle.wg_core.specs.declared.engine.Settled.TheVariants as settled
 use Rattle.wg_core.specs.declared.report.End.{End}
 use Rattle.wg_core.specs.declared.report.End.TheVariants as ended
-use Rattle.wg_core.specs.declared.pending.Pending.{Pending}
-use Rattle.wg_core.specs.Choice.{IsChoice, NoChoice}
-use Rattle.wg_core.specs.Core.{CoreView}
-use Rattle.wg_core.specs.Moves.{with_out, TakesStep}
-use Rattle.wg_core.specs.Standing.{IsNotOut}
-
--- nothing waits, nothing is left of the entries, and nothing is out
-pub record IsIdle (core : CoreView) : Type 0 where
-  pub waits : Each (λ (ws : List Live). ws ≡ []) core.waits
-  pub entries : core.entries ≡ []
-  pub outs : core.outs ≡ []
-
--- the journal and the launches out are as many as the limit
-abbrev pub IsSpentUp : CoreView → Type 0
-IsSpentUp core = length core.journal + length core.outs ≡ core.limits.launches
+use Rattle.wg_standing.specs.declared.pending.Pending.{Pending}
+use Rattle.wg_standing.specs.Choice.{IsChoice, NoChoice}
+use Rattle.wg_standing.specs.Core.{CoreView}
+use Rattle.wg_standing.specs.Idle.{IsIdle, IsOut, IsSpentUp, SomeIsOut}
+use Rattle.wg_standing.specs.Moves.{with_out, TakesStep}
+use Rattle.wg_standing.specs.Standing.{IsNotOut}
 
 abbrev pub IsLaunchesSpent : CoreView → Type 0
 IsLaunchesSpent core = (core.stopped ≡ None) × (IsIdle core → ⊥) × (core.outs ≡ []) × IsSpentUp core
@@ -41,15 +30,7 @@ Opens old new opened.Memory =
     (old.stopped ≡ None) × (length old.journal + length old.outs < old.limits.launches)
     × ((o : Pending) × IsChoice old o) × (new ≡ old)
 
--- the launch with this ticket is out, and these are out beside it
-pub record IsOut (core : CoreView) (ticket : ℕ) (before : List Pending) (o : Pending) (later : List Pending) : Type 0 where
-  pub place : core.outs ≡ before ++ o ∷ later
-  pub named : o.ticket ≡ ticket
-
-abbrev pub SomeIsOut : CoreView → ℕ → Type 0
-SomeIsOut core ticket = (before : List Pending) × (o : Pending) × (later : List Pending) × IsOut core ticket before o later
-
--- What `settle` answers. `Memory` may come in place of `Redone` and `TurnsSpent`; `Kept` comes with guesses.
+-- What `settle` answers. `Memory` may come in place of `Redone` and `TurnsSpent`; `StoreView` comes with guesses.
 abbrev pub Settles : Meaning → CoreView → CoreView → ℕ → Settled → Type 0
 Settles made old new ticket settled.Kept = ⊥
 Settles made old new ticket settled.Redone = (old.stopped ≡ None) × TakesStep made old new ticket
@@ -62,10 +43,10 @@ Settles made old new ticket settled.Stopped = (old.stopped ≢ None) × (new ≡
 Settles made old new ticket settled.Memory = (old.stopped ≡ None) × SomeIsOut old ticket × (new ≡ old)
 
 -- how a core ended: stopped by a launch that was spent, with an empty bag, with the launches spent, or else
-abbrev pub Ends : CoreView → End → Type 0
-Ends core (ended.Turns launch) =
+abbrev pub EndsAs : CoreView → End → Type 0
+EndsAs core (ended.Turns launch) =
     (ticket : ℕ) × (core.stopped ≡ Some ticket)
     × ((before : List Pending) × (o : Pending) × (later : List Pending) × IsOut core ticket before o later × (launch ≡ o.launch))
-Ends core ended.Complete = (core.stopped ≡ None) × IsIdle core
-Ends core ended.Launches = IsLaunchesSpent core
-Ends core ended.Open = (core.stopped ≡ None) × (IsIdle core → ⊥) × (IsLaunchesSpent core → ⊥)
+EndsAs core ended.Complete = (core.stopped ≡ None) × IsIdle core
+EndsAs core ended.Launches = IsLaunchesSpent core
+EndsAs core ended.Open = (core.stopped ≡ None) × (IsIdle core → ⊥) × (IsLaunchesSpent core → ⊥)

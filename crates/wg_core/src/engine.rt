@@ -8,12 +8,11 @@ ghost use Rattle.wg_machine.specs.Buffers.{Buffers};
 ghost use Rattle.wg_machine.specs.Bytes.{plan_bytes};
 ghost use Rattle.wg_machine.specs.GoodShape.{IsGoodShape};
 ghost use Rattle.wg_machine.specs.LaunchMeaning.{Arrives, Meaning};
-ghost use Rattle.wg_core.specs.Standing.{IsNotOut};
+ghost use Rattle.wg_standing.specs.Standing.{IsNotOut};
 ghost use Rattle.wg_core.specs.Ending.{EndIs, IsLaunchOut};
 ghost use Rattle.wg_core.specs.Inside.{IsAt};
 ghost use Rattle.wg_core.specs.Store.{IsBare};
 
-use crate::pending::Pending;
 use crate::report::{End, Report};
 use crate::run::run;
 use crate::store::{Store, launch_of};
@@ -21,6 +20,11 @@ use std::alloc::{AllocError, Global};
 use std::marker::Model;
 use wg_machine::{
     Bodies, Entries, Entry, EntryList, Halt, Launch, Limits, Made, SentList, Shape, needs_are_kept,
+};
+use wg_standing::{
+    Pending, beginnings_place, beginnings_stand, launches_leave_each_list, never_blocked,
+    openings_leave, openings_place, openings_stand, outs_fit, settlings_free, settlings_leave,
+    settlings_place, settlings_stand, stoppings_stand, taken_stay, unopened_is_whole,
 };
 use wg_words::TryCopy;
 
@@ -77,22 +81,22 @@ pub struct Core {
 }
 
 impl Model for Core {
-    ghost use Rattle.wg_core.specs.Core.{CoreView};
+    ghost use Rattle.wg_standing.specs.Core.{CoreView};
 
     ghost Value = { CoreView };
 
     ghost use Rattle.std.specs.Prelude.{vec_capacity};
-    ghost use Rattle.wg_core.specs.Inside.{now_of, IsSound};
+    ghost use Rattle.wg_core.specs.Inside.{view_of, IsSoundCore};
 
-    ghost view = { λ c. now_of c.store c.limits c.journal.items c.next c.outs.items c.tickets c.denied c.peak c.stopped };
+    ghost view = { λ c. view_of c.store c.limits c.journal.items c.next c.outs.items c.tickets c.denied c.peak c.stopped };
 
-    ghost invariant = { λ c. IsSound c.store (now_of c.store c.limits c.journal.items c.next c.outs.items c.tickets c.denied c.peak c.stopped) (vec_capacity c.journal) };
+    ghost invariant = { λ c. IsSoundCore c.store (view_of c.store c.limits c.journal.items c.next c.outs.items c.tickets c.denied c.peak c.stopped) (vec_capacity c.journal) };
 }
 
 impl Core {
-    ghost use Rattle.wg_core.specs.Core.{begun};
-    ghost use Rattle.wg_core.specs.Standing.{StandsFor};
-    ghost use Rattle.wg_core.specs.Tables.{Opens, Settles, Ends};
+    ghost use Rattle.wg_standing.specs.Core.{core_begun};
+    ghost use Rattle.wg_standing.specs.Standing.{StandsFor};
+    ghost use Rattle.wg_core.specs.Tables.{Opens, Settles, EndsAs};
 
     /// A core at the start of a script, with room for one launch out at a time. The graph has thread nodes alone, and
     /// no buffers.
@@ -108,9 +112,10 @@ impl Core {
         requires arrive { Each (Arrives shape) entries }
         requires few { length entries ≤ 1000000 }
         requires launches { limits.launches ≤ 10000000 }
-        ensures begun { IfOk result (λ core. core ≡ begun shape 1 limits entries []) }
+        ensures begun { IfOk result (λ core. core ≡ core_begun shape 1 limits entries []) }
         ensures stands { IfOk result (λ core. (made : Meaning) → StandsFor made entries [] core) }
     {
+        beginnings_stand();
         Core::start(alloc, shape, entries, limits)
     }
 
@@ -125,8 +130,9 @@ impl Core {
         requires arrive { Each (Arrives shape) entries }
         requires few { length entries ≤ 1000000 }
         requires launches { limits.launches ≤ 10000000 }
-        ensures { IfOk result (λ core. core ≡ begun shape 1 limits entries []) }
+        ensures { IfOk result (λ core. core ≡ core_begun shape 1 limits entries []) }
     {
+        beginnings_place();
         let next = entries.len() as u64;
         let store = Store::new(alloc, shape, entries, 1)?;
         Ok(Core {
@@ -149,6 +155,7 @@ impl Core {
         ensures stands { (made : Meaning) (script : List Record) (start_buffers : Buffers)
             → StandsFor made script start_buffers self.old → StandsFor made script start_buffers self.new }
     {
+        openings_stand();
         let _ = &self.limits;
         self.opened()
     }
@@ -156,6 +163,11 @@ impl Core {
     fn opened(&mut self) -> Opened
         ensures { Opens self.old self.new result }
     {
+        unopened_is_whole();
+        openings_place();
+        openings_leave();
+        launches_leave_each_list();
+        never_blocked();
         if self.stopped.is_some() {
             return Opened::Stopped;
         }
@@ -202,7 +214,9 @@ impl Core {
         ensures stands { (script : List Record) (start_buffers : Buffers)
             → StandsFor (B.made bodies.now) script start_buffers self.old → StandsFor (B.made bodies.now) script start_buffers self.new }
     {
-        needs_are_kept();
+        outs_fit();
+        settlings_stand();
+        stoppings_stand();
         let _ = &self.limits;
         self.settled(bodies, ticket)
     }
@@ -212,6 +226,11 @@ impl Core {
         ensures { Settles (B.made bodies.now) self.old self.new ticket result }
     {
         needs_are_kept();
+        outs_fit();
+        settlings_place();
+        settlings_leave();
+        settlings_free();
+        taken_stay();
         if self.stopped.is_some() {
             return Settled::Stopped;
         }
@@ -253,11 +272,12 @@ impl Core {
         ensures denied { result.denied ≡ self.denied }
         ensures peak { result.peak ≡ self.peak }
         ensures bytes { result.bytes ≡ plan_bytes self.shape self.width }
-        ensures end { Ends self result.end }
+        ensures end { EndsAs self result.end }
         ensures limits { result.limits ≡ self.limits }
         ensures outs { Each (λ (e : Line). e.first_out + e.outs ≤ result.records) result.entries }
         ensures records_fit { result.records < 2 ^ 64 }
     {
+        unopened_is_whole();
         let Core {
             alloc: _,
             limits,

@@ -2,15 +2,11 @@
 #![tactic(auto)]
 
 mod engine;
-mod laws;
 mod memory;
 mod needs;
-mod pending;
 mod report;
 mod run;
 mod store;
 
 pub use engine::{Core, Opened, Out, Settled};
-pub use laws::idle_is_complete;
-pub use pending::Pending;
 pub use report::{End, Report};

@@ -3,16 +3,16 @@ ghost use Rattle.wg_words.specs.Each.{Each};
 ghost use Rattle.wg_machine.specs.Bytes.{plan_bytes};
 ghost use Rattle.wg_machine.specs.GoodShape.{IsGoodShape};
 ghost use Rattle.wg_machine.specs.Units.{depth_at, stride_at};
-ghost use Rattle.wg_core.specs.Moves.{bytes_of, used_more};
-ghost use Rattle.wg_core.specs.Standing.{in_slot};
-ghost use Rattle.wg_core.specs.Store.{AllThread, ArrivesIn, BestBelow, CanSettle, Chooses, ComesBefore, IsBare, IsBestBelow, KeptHasRoom, Settles, Takes, kept_begun, record_at, thread_born, thread_pending};
+ghost use Rattle.wg_standing.specs.Moves.{slot_bytes, used_more};
+ghost use Rattle.wg_standing.specs.Standing.{in_slot};
+ghost use Rattle.wg_core.specs.Store.{AllThread, ArrivesIn, BestBelow, CanSettle, Chooses, ComesBefore, IsBare, IsBestBelow, StoreHasRoom, StoreSettles, StoreOpens, begun_store, record_at, thread_born, thread_pending};
 
 use crate::needs::{Needs, needs_of};
-use crate::pending::Pending;
 use std::alloc::{AllocError, Global};
 use std::collections::VecDeque;
 use std::marker::Model;
 use wg_machine::{Entries, Groups, Launch, Live, Record, Records, Sent, SentList, Shape};
+use wg_standing::{Pending, only_units_are_needed};
 use wg_words::{Numbers, TryCopy};
 
 /// Where the record of the next launch stands.
@@ -38,13 +38,13 @@ pub struct Store {
 }
 
 impl Model for Store {
-    ghost use Rattle.wg_core.specs.Store.{Kept};
+    ghost use Rattle.wg_core.specs.Store.{StoreView};
 
-    ghost Value = { Kept };
+    ghost Value = { StoreView };
 
-    ghost use Rattle.wg_core.specs.StoreInside.{kept_of, IsStore};
+    ghost use Rattle.wg_core.specs.StoreInside.{store_view, IsStore};
 
-    ghost view = { kept_of };
+    ghost view = { store_view };
 
     ghost invariant = { IsStore };
 }
@@ -60,7 +60,7 @@ impl Store {
         requires good { IsGoodShape shape }
         requires threads { AllThread shape }
         requires narrow { width ≤ 64 }
-        ensures { IfOk result (λ store. store ≡ kept_begun shape width entries) }
+        ensures { IfOk result (λ store. store ≡ begun_store shape width entries) }
     {
         let needs = needs_of(alloc, &shape)?;
         let handed = entries.len() as u64;
@@ -87,7 +87,7 @@ impl Store {
 
     /// The bytes of the slots in use.
     pub fn bytes(&self) -> u64
-        ensures { result ≡ bytes_of self.now.shape 0 self.now.used }
+        ensures { result ≡ slot_bytes self.now.shape 0 self.now.used }
     {
         bytes_in(&self.shape, self.used.as_slice())
     }
@@ -141,7 +141,7 @@ impl Store {
     // The record at a place, whose unit has room, or the best so far.
     fn deeper(&self, best: Option<usize>, at: usize) -> usize
         requires within { at < length self.now.waiting }
-        requires room { IfSome (slice_get self.now.waiting at) (λ x. KeptHasRoom self.now x.unit) }
+        requires room { IfSome (slice_get self.now.waiting at) (λ x. StoreHasRoom self.now x.unit) }
         requires so_far { BestBelow self.now at best }
         ensures { IsBestBelow self.now (at + 1) result }
     {
@@ -157,8 +157,9 @@ impl Store {
 
     // Whether each unit has slots left for all that a launch of this one may send to it.
     fn has_room(&self, unit: u32) -> bool
-        ensures { IsTrue result ↔ KeptHasRoom self.now unit }
+        ensures { IsTrue result ↔ StoreHasRoom self.now unit }
     {
+        only_units_are_needed();
         // What is no unit of the shape sends nothing.
         let Some(row) = self.needs.rows.get(unit as usize) else {
             return true;
@@ -183,13 +184,14 @@ impl Store {
         }
     }
 
-    /// Takes a record of the unit from its place, and reserves what its launch may send. It takes no memory.
+    /// StoreOpens a record of the unit from its place, and reserves what its launch may send. It takes no memory.
     pub fn open(&mut self, place: Place, unit: u32)
         requires unit { unit < length self.old.shape.units }
         requires there { IsSome (record_at self.old place) }
-        requires room { KeptHasRoom self.old unit }
-        ensures { Takes self.old self.new place unit }
+        requires room { StoreHasRoom self.old unit }
+        ensures { StoreOpens self.old self.new place unit }
     {
+        only_units_are_needed();
         let row = &self.needs.rows.as_slice()[unit as usize];
         reserve(self.reserved.as_mut_slice(), row.as_slice());
         match place {
@@ -210,9 +212,10 @@ impl Store {
     ) -> Result<(), AllocError>
         requires can { CanSettle self.old pending.now next sent }
         requires fits { next + length sent < 2 ^ 64 }
-        ensures ok { OnOk result (Settles self.old self.new pending.now next sent) }
+        ensures ok { OnOk result (StoreSettles self.old self.new pending.now next sent) }
         ensures err { OnErr result (self.new ≡ self.old) }
     {
+        only_units_are_needed();
         let mut arrived = arrivals(alloc, next, sent.as_slice())?;
         let before = self.waiting.len();
         self.waiting.append(&mut arrived)?;
@@ -277,7 +280,7 @@ fn reserve(reserved: &mut [u32], needs: &[u32])
     }
 }
 
-// Takes the needs of a launch from what is reserved.
+// StoreOpens the needs of a launch from what is reserved.
 fn give_back(reserved: &mut [u32], needs: &[u32])
     requires lengths { length needs.now ≡ length reserved.old }
     requires enough { (v : ℕ) → slice_index needs.now v ≤ slice_index reserved.old v }
@@ -332,7 +335,7 @@ fn arrivals(alloc: Global, from: u64, sent: &[Sent]) -> Result<Vec<Live>, AllocE
 fn bytes_in(shape: &Shape, counts: &[u32]) -> u64
     requires good { IsGoodShape shape.now }
     requires lengths { length counts.now ≡ length shape.now.units }
-    ensures value { result ≡ bytes_of shape.now 0 counts.now }
+    ensures value { result ≡ slot_bytes shape.now 0 counts.now }
     ensures bound { result < 2 ^ 58 }
 {
     let mut bytes = 0;

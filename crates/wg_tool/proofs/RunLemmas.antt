@@ -4,9 +4,9 @@ use Rattle.std.proofs.lemmas.List.{length_push}
 use Rattle.wg_machine.specs.declared.launch.Entry.{Entry}
 use Rattle.wg_machine.specs.Step.{entry_of}
 use Rattle.wg_machine.specs.LaunchMeaning.{Meaning}
-use Rattle.wg_core.specs.declared.pending.Pending.{Pending}
-use Rattle.wg_core.specs.Core.{CoreView}
-use Rattle.wg_core.specs.Moves.{TakesStep}
+use Rattle.wg_standing.specs.declared.pending.Pending.{Pending}
+use Rattle.wg_standing.specs.Core.{CoreView}
+use Rattle.wg_standing.specs.Moves.{TakesStep}
 use Rattle.std.specs.Prelude.{slice_get, slice_index, unwrap_or}
 use Rattle.std.specs.Option.{option_map}
 use Rattle.std.proofs.Common.{Option, ◌^◌, ◌%◌}
@@ -26,8 +26,8 @@ use Rattle.wg_machine.specs.State.{State, start}
 use Rattle.wg_machine.specs.Step.{Passed}
 use Rattle.wg_machine.specs.Units.{words_at}
 use Rattle.wg_core.specs.declared.report.Report.{Report}
-use Rattle.wg_core.specs.Standing.{StandsFor}
-use Rattle.wg_core.specs.Tables.{IsIdle}
+use Rattle.wg_standing.specs.Standing.{StandsFor}
+use Rattle.wg_standing.specs.Idle.{IsIdle}
 use Rattle.wg_machine.specs.declared.journal.Done.{Done}
 use Rattle.wg_tool.specs.declared.pair.Pair.{Pair}
 use Rattle.wg_tool.specs.Report.{IsReport, report_text, done_in}

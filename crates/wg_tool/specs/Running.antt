@@ -3,9 +3,9 @@ use Rattle.std.specs.Prelude.{◌≡◌, ℕ, ◌+◌, ◌<◌, List, [], ◌∷
 use Rattle.wg_machine.specs.declared.launch.Sent.{Sent}
 use Rattle.wg_machine.specs.declared.shape.Shape.{Shape}
 use Rattle.wg_machine.specs.LaunchMeaning.{Meaning}
-use Rattle.wg_core.specs.declared.pending.Pending.{Pending}
-use Rattle.wg_core.specs.Core.{CoreView}
-use Rattle.wg_core.specs.Standing.{StandsFor}
+use Rattle.wg_standing.specs.declared.pending.Pending.{Pending}
+use Rattle.wg_standing.specs.Core.{CoreView}
+use Rattle.wg_standing.specs.Standing.{StandsFor}
 use Rattle.wg_tool.specs.declared.limits.TheConstants.{LAUNCHES}
 use Rattle.wg_tool.specs.declared.pair.Pair.{Pair}
 use Rattle.wg_tool.specs.FirstForm.{IsFirstForm}

@@ -9,10 +9,11 @@ use crate::bodies::Senders;
 use crate::limits::{LAUNCHES, TURNS};
 use crate::steps::run_all;
 use std::alloc::{AllocError, Global};
-use wg_core::{Core, Report, idle_is_complete};
+use wg_core::{Core, Report};
 use wg_machine::{
     Entries, Limits, chains_are_short, each_once, slots_hold_bytes, something_has_room,
 };
+use wg_standing::idle_is_complete;
 use wg_words::TryCopy;
 
 /// Runs a script to its end.

@@ -1,7 +1,7 @@
 ghost use Rattle.std.specs.Prelude.{◌≡◌, [], List, length, OnOk};
 ghost use Rattle.wg_machine.specs.declared.launch.Sent.{Sent as Record};
-ghost use Rattle.wg_core.specs.Standing.{StandsFor};
-ghost use Rattle.wg_core.specs.Tables.{IsIdle};
+ghost use Rattle.wg_standing.specs.Standing.{StandsFor};
+ghost use Rattle.wg_standing.specs.Idle.{IsIdle};
 ghost use Rattle.wg_tool.specs.Running.{KeepsPlan, IsReady, IsOnlyOut, RanOne, StandsShort};
 ghost use Rattle.wg_tool.specs.Sending.{sender};
 ghost use Rattle.wg_tool.specs.declared.limits.TheConstants.{LAUNCHES as MOST};

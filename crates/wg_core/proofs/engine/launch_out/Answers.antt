@@ -1,8 +1,8 @@
 use Rattle.std.proofs.Common.{◌≡◌, ap, subst, ◌∙◌, arith, List}
 use Rattle.std.proofs.lemmas.Option.{slice_get_within, get_or_from_slice_get}
-use Rattle.wg_core.specs.declared.pending.Pending.{Pending}
+use Rattle.wg_standing.specs.declared.pending.Pending.{Pending}
 use Rattle.wg_core.specs.Inside.{IsAt}
-use Rattle.wg_core.specs.Standing.{IsNotOut}
+use Rattle.wg_standing.specs.Standing.{IsNotOut}
 use Rattle.wg_core.proofs.engine.launch_out.Goals as goal
 
 pub unreachable-requires : goal.unreachable-requires

@@ -1,5 +1,5 @@
 use Rattle.std.proofs.Common.{drop}
-use Rattle.wg_core.specs.Standing.{IsNotOut}
+use Rattle.wg_standing.specs.Standing.{IsNotOut}
 use Rattle.wg_core.proofs.engine.place_of.Given as goal
 
 -- where none of the rest has the ticket, none has

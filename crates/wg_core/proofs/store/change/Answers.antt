@@ -1,7 +1,7 @@
 use Rattle.std.proofs.Common.{◌<◌, ◌+◌, ℕ, List, length, arith, sym, ◌∙◌, ap, set, take, length-take-le}
 use Rattle.std.specs.Prelude.{slice_index}
 use Rattle.wg_machine.specs.declared.launch.Live.{Live}
-use Rattle.wg_core.specs.Moves.{used_more}
+use Rattle.wg_standing.specs.Moves.{used_more}
 use Rattle.wg_core.specs.Store.{ArrivesIn}
 use Rattle.wg_core.proofs.Slotting.{used_freed, used_next, used_few, take_next, each_index}
 use Rattle.wg_core.proofs.store.change.Goals as goal

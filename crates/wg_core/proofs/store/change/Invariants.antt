@@ -1,5 +1,5 @@
 use Rattle.std.proofs.Common.{◌≡◌, take}
-use Rattle.wg_core.specs.Moves.{used_more}
+use Rattle.wg_standing.specs.Moves.{used_more}
 use Rattle.wg_core.proofs.store.change.Given as goal
 
 abbrev pub invariant-loop-live : goal.invariant-loop-live

@@ -6,8 +6,8 @@ use Rattle.wg_machine.specs.declared.shape.Unit.{Unit}
 use Rattle.wg_machine.specs.declared.shape.Kind.TheVariants.{Thread}
 use Rattle.wg_machine.specs.GoodShape.{IsGoodShape}
 use Rattle.wg_machine.specs.LaunchMeaning.{Arrives}
-use Rattle.wg_core.specs.Core.{CoreView}
-use Rattle.wg_core.specs.Standing.{StandsFor}
+use Rattle.wg_standing.specs.Core.{CoreView}
+use Rattle.wg_standing.specs.Standing.{StandsFor}
 use Rattle.wg_tool.specs.Report.{IsReport, report_text, done_in}
 use Rattle.wg_tool.specs.Running.{IsShort}
 use Rattle.wg_tool.specs.SenderLaws.{IsWired}

@@ -1,6 +1,6 @@
 use Rattle.std.proofs.Common.{◌-◌, [], List, length}
 use Rattle.wg_machine.specs.declared.launch.Sent.{Sent}
-use Rattle.wg_core.specs.Standing.{StandsFor}
+use Rattle.wg_standing.specs.Standing.{StandsFor}
 use Rattle.wg_tool.specs.Running.{KeepsPlan, IsReady, StandsShort}
 use Rattle.wg_tool.specs.Sending.{sender}
 use Rattle.wg_tool.specs.declared.limits.TheConstants.{LAUNCHES}

@@ -1,9 +1,9 @@
 use Rattle.std.proofs.Common.{◌≤◌, ◌+◌, List, length, sym, subst, ◌∙◌, ℕ}
 use Rattle.wg_words.specs.Each.{Each}
 use Rattle.wg_machine.specs.declared.launch.Entry.{Entry}
-use Rattle.wg_core.specs.Core.{CoreView}
+use Rattle.wg_standing.specs.Core.{CoreView}
 use Rattle.wg_core.specs.Ending.{EndIs}
-use Rattle.wg_core.specs.Tables.{Ends}
+use Rattle.wg_core.specs.Tables.{EndsAs}
 use Rattle.wg_core.proofs.Endings.{ends, stopped_out}
 use Rattle.wg_core.proofs.Openings.{Rest, seen}
 use Rattle.wg_core.proofs.engine.Core.finish.Goals as goal
@@ -19,7 +19,7 @@ returns-clause-end c =
     let s = c.self.inside in
     let r : Rest = record { limits = s.limits; journal = s.journal.items; next = s.next; outs = s.outs.items; tickets = s.tickets; denied = s.denied; peak = s.peak; stopped = s.stopped } in
     let e : EndIs s.store s.outs.items s.stopped (length s.journal.items) s.limits c.end_of-end.result = subst (λ (n : ℕ). EndIs s.store s.outs.items s.stopped n s.limits c.end_of-end.result) (c.len.ensures ∙ s.journal.ok.0) c.end_of-end.ensures in
-    subst (λ (n : CoreView). Ends n c.end_of-end.result) c.self.view_is (ends s.store r _ c.end_of-end.result c.self.invariant e)
+    subst (λ (n : CoreView). EndsAs n c.end_of-end.result) c.self.view_is (ends c.unopened_is_whole.ensures s.store r _ c.end_of-end.result c.self.invariant e)
 
 pub returns-clause-outs : goal.returns-clause-outs
 returns-clause-outs c =

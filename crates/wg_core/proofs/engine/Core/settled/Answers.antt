@@ -6,19 +6,20 @@ use Rattle.wg_machine.specs.declared.launch.Entry.{Entry}
 use Rattle.wg_machine.specs.declared.launch.Sent.{Sent}
 use Rattle.wg_machine.specs.LaunchMeaning.{FitsShape, KeepsLaws, Outcome, outcome_of}
 use Rattle.wg_machine.specs.Step.{entry_of}
-use Rattle.wg_core.specs.declared.pending.Pending.{Pending}
-use Rattle.wg_core.specs.Core.{CoreView}
-use Rattle.wg_core.specs.Inside.{IsAt, IsSound, now_of}
-use Rattle.wg_core.specs.Moves.{TakesStep, bytes_of, settled_of}
-use Rattle.wg_core.specs.Outs.{numbers_out}
-use Rattle.wg_core.specs.Standing.{AllNamed}
-use Rattle.wg_core.specs.Store.{CanSettle, Settles}
+use Rattle.wg_standing.specs.declared.pending.Pending.{Pending}
+use Rattle.wg_standing.specs.Core.{CoreView}
+use Rattle.wg_core.specs.Inside.{IsAt, IsSoundCore, view_of}
+use Rattle.wg_standing.specs.Moves.{TakesStep, slot_bytes, settled_of}
+use Rattle.wg_standing.specs.Outs.{numbers_out}
+use Rattle.wg_standing.specs.Standing.{AllNamed}
+use Rattle.wg_core.specs.Store.{CanSettle, StoreSettles}
 use Rattle.wg_core.proofs.Openings.{Rest, seen}
-use Rattle.wg_core.proofs.Settlings.{SendsFew, can_settle, named_at, parted, removed, sends_few, settled_sound, settled_view, settling}
+use Rattle.wg_core.proofs.Settlings.{SendsFew, SettlingLaws, can_settle, named_at, parted, removed, sends_few, settled_sound, settled_view, settling}
 use Rattle.wg_core.proofs.engine.Core.settled.Goals as goal
 
 pub run-requires-clause-fits : goal.run-requires-clause-fits
 run-requires-clause-fits g c =
+    let law : SettlingLaws = record { fit = c.outs_fit.ensures; place = c.settlings_place.ensures; leave = c.settlings_leave.ensures; free = c.settlings_free.ensures; stay = c.taken_stay.ensures } in
     let s = c.self.inside in
     let r : Rest = record { limits = s.limits; journal = s.journal.items; next = s.next; outs = s.outs.items; tickets = s.tickets; denied = s.denied; peak = s.peak; stopped = s.stopped } in
     let i = c.in-Some.place in
@@ -29,7 +30,7 @@ run-requires-clause-fits g c =
     let p = parted s.outs.items i o at.there in
     let chosen : c.index-chosen.result.now ≡ o = c.index-chosen.ensures ∙ get_or_from_slice_get s.outs.items i o c.index-chosen.result.now at.there in
     let shape : g.B.Bodies.graph c.args.bodies.now ≡ s.store.shape = c.requires.graph ∙ sym (ap (λ (n : CoreView). n.shape) c.self.view_is) in
-    let fits = (settling s.store r _ before o later c.self.invariant p).fits in
+    let fits = (settling law s.store r _ before o later c.self.invariant p).fits in
     subst (λ (a : Shape). FitsShape a c.index-chosen.result.now.launch) (sym shape) (subst (λ (q : Pending). FitsShape s.store.shape q.launch) (sym chosen) fits)
 
 pub returns-in_default-copy : goal.returns-in_default-copy
@@ -125,6 +126,7 @@ invariant_of-self g c =
 
 pub settle-requires-clause-can : goal.settle-requires-clause-can
 settle-requires-clause-can g c =
+    let law : SettlingLaws = record { fit = c.outs_fit.ensures; place = c.settlings_place.ensures; leave = c.settlings_leave.ensures; free = c.settlings_free.ensures; stay = c.taken_stay.ensures } in
     let s = c.self.inside in
     let r : Rest = record { limits = s.limits; journal = s.journal.items; next = s.next; outs = s.outs.items; tickets = s.tickets; denied = s.denied; peak = s.peak; stopped = s.stopped } in
     let i = c.in-Some.place in
@@ -135,13 +137,13 @@ settle-requires-clause-can g c =
     let p = parted s.outs.items i o at.there in
     let chosen : c.index-chosen.result.now ≡ o = c.index-chosen.ensures ∙ get_or_from_slice_get s.outs.items i o c.index-chosen.result.now at.there in
     let shape : g.B.Bodies.graph c.args.bodies.now ≡ s.store.shape = c.requires.graph ∙ sym (ap (λ (n : CoreView). n.shape) c.self.view_is) in
-    let fits = (settling s.store r _ before o later c.self.invariant p).fits in
+    let fits = (settling law s.store r _ before o later c.self.invariant p).fits in
     let made = c.in-Ok.made in
     let outcome : Outcome = outcome_of made [] in
     let lawful : KeepsLaws (g.B.Bodies.graph c.args.bodies.now) o.launch [] s.limits.turns outcome = subst (λ (q : Pending). KeepsLaws (g.B.Bodies.graph c.args.bodies.now) q.launch [] s.limits.turns outcome) chosen c.in-Ok.ensures.lawful in
     let laws : KeepsLaws s.store.shape o.launch [] s.limits.turns outcome = subst (λ (a : Shape). KeepsLaws a o.launch [] s.limits.turns outcome) shape lawful in
     let few : SendsFew s.store.shape o.launch.unit made.sent = sends_few c.needs_are_kept.ensures s.store.shape o.launch [] s.limits.turns outcome c.self.invariant.good fits laws in
-    let can = can_settle s.store r _ before o later made.sent c.self.invariant p few in
+    let can = can_settle law s.store r _ before o later made.sent c.self.invariant p few in
     subst (λ (ss : List Sent). CanSettle s.store c.index-chosen.result.now s.next ss) (sym c.sent_of-sent.ensures) (subst (λ (q : Pending). CanSettle s.store q s.next made.sent) (sym chosen) can)
 
 pub remove-pending-requires : goal.remove-pending-requires
@@ -160,6 +162,7 @@ remove-pending-requires g c =
 
 pub overflow_cast-outs : goal.overflow_cast-outs
 overflow_cast-outs g c =
+    let law : SettlingLaws = record { fit = c.outs_fit.ensures; place = c.settlings_place.ensures; leave = c.settlings_leave.ensures; free = c.settlings_free.ensures; stay = c.taken_stay.ensures } in
     let s = c.self.inside in
     let r : Rest = record { limits = s.limits; journal = s.journal.items; next = s.next; outs = s.outs.items; tickets = s.tickets; denied = s.denied; peak = s.peak; stopped = s.stopped } in
     let i = c.in-Some.place in
@@ -170,7 +173,7 @@ overflow_cast-outs g c =
     let p = parted s.outs.items i o at.there in
     let chosen : c.index-chosen.result.now ≡ o = c.index-chosen.ensures ∙ get_or_from_slice_get s.outs.items i o c.index-chosen.result.now at.there in
     let shape : g.B.Bodies.graph c.args.bodies.now ≡ s.store.shape = c.requires.graph ∙ sym (ap (λ (n : CoreView). n.shape) c.self.view_is) in
-    let fits = (settling s.store r _ before o later c.self.invariant p).fits in
+    let fits = (settling law s.store r _ before o later c.self.invariant p).fits in
     let made = c.in-Ok.made in
     let outcome : Outcome = outcome_of made [] in
     let lawful : KeepsLaws (g.B.Bodies.graph c.args.bodies.now) o.launch [] s.limits.turns outcome = subst (λ (q : Pending). KeepsLaws (g.B.Bodies.graph c.args.bodies.now) q.launch [] s.limits.turns outcome) chosen c.in-Ok.ensures.lawful in
@@ -182,6 +185,7 @@ overflow_cast-outs g c =
 
 pub invariant_of-self-in-Ok : goal.invariant_of-self-in-Ok
 invariant_of-self-in-Ok g c =
+    let law : SettlingLaws = record { fit = c.outs_fit.ensures; place = c.settlings_place.ensures; leave = c.settlings_leave.ensures; free = c.settlings_free.ensures; stay = c.taken_stay.ensures } in
     let s = c.self.inside in
     let r : Rest = record { limits = s.limits; journal = s.journal.items; next = s.next; outs = s.outs.items; tickets = s.tickets; denied = s.denied; peak = s.peak; stopped = s.stopped } in
     let i = c.in-Some.place in
@@ -193,7 +197,7 @@ invariant_of-self-in-Ok g c =
     let chosen : c.index-chosen.result.now ≡ o = c.index-chosen.ensures ∙ get_or_from_slice_get s.outs.items i o c.index-chosen.result.now at.there in
     let none : s.stopped ≡ None = search rules in
     let shape : g.B.Bodies.graph c.args.bodies.now ≡ s.store.shape = c.requires.graph ∙ sym (ap (λ (n : CoreView). n.shape) c.self.view_is) in
-    let fits = (settling s.store r _ before o later c.self.invariant p).fits in
+    let fits = (settling law s.store r _ before o later c.self.invariant p).fits in
     let made = c.in-Ok.made in
     let outcome : Outcome = outcome_of made [] in
     let lawful : KeepsLaws (g.B.Bodies.graph c.args.bodies.now) o.launch [] s.limits.turns outcome = subst (λ (q : Pending). KeepsLaws (g.B.Bodies.graph c.args.bodies.now) q.launch [] s.limits.turns outcome) chosen c.in-Ok.ensures.lawful in
@@ -202,22 +206,23 @@ invariant_of-self-in-Ok g c =
     let l = c.settle.new.self in
     let taken : c.remove-pending.result ≡ o = c.remove-pending.ensures.value ∙ get_or_from_slice_get s.outs.items i o c.remove-pending.result at.there in
     let rest : c.remove-pending.new.self.items ≡ before ++ later = c.remove-pending.ensures.items ∙ removed s.outs.items i o at.there in
-    let op : Settles s.store l o s.next made.sent = subst (λ (q : Pending). Settles s.store l q s.next made.sent) chosen (subst (λ (ss : List Sent). Settles s.store l c.index-chosen.result.now s.next ss) c.sent_of-sent.ensures c.in-Ok-settle.ensures.ok) in
+    let op : StoreSettles s.store l o s.next made.sent = subst (λ (q : Pending). StoreSettles s.store l q s.next made.sent) chosen (subst (λ (ss : List Sent). StoreSettles s.store l c.index-chosen.result.now s.next ss) c.sent_of-sent.ensures c.in-Ok-settle.ensures.ok) in
     let n : c.len-outs.result ≡ length made.sent = c.len-outs.ensures ∙ ap (λ (ss : List Sent). length ss) c.sent_of-sent.ensures in
     let d : c.from.result ≡ made.denied = c.from.ensures ∙ c.denied_in-denied.ensures.value in
-    let m : c.max-self-inside.result ≡ max s.peak (bytes_of l.shape 0 l.used) = c.max-self-inside.ensures ∙ ap (λ (b : ℕ). max s.peak b) c.bytes.ensures in
+    let m : c.max-self-inside.result ≡ max s.peak (slot_bytes l.shape 0 l.used) = c.max-self-inside.ensures ∙ ap (λ (b : ℕ). max s.peak b) c.bytes.ensures in
     let named : o.inputs ≡ numbers_out o = named_at before o later (subst AllNamed p c.self.invariant.placed.inputs) in
     let entry : c.entry_for.result ≡ entry_of o.launch o.at s.next outcome = c.entry_for.ensures ∙ ap (λ (q : Pending). (let e : Entry = record { unit = q.launch.unit; at = q.at; inputs = q.inputs; first_out = if c.len-outs.result == 0 then 0 else s.next; outs = c.len-outs.result } in e)) taken ∙ ap (λ (ns : List ℕ). (let e : Entry = record { unit = o.launch.unit; at = o.at; inputs = ns; first_out = if c.len-outs.result == 0 then 0 else s.next; outs = c.len-outs.result } in e)) named ∙ ap (λ (x : ℕ). (let e : Entry = record { unit = o.launch.unit; at = o.at; inputs = numbers_out o; first_out = if x == 0 then 0 else s.next; outs = x } in e)) n in
     let journal : c.push_reserved.new.self.items ≡ s.journal.items ++ entry_of o.launch o.at s.next outcome ∷ [] = c.push_reserved.ensures.items ∙ ap (λ (e : Entry). s.journal.items ++ e ∷ []) entry in
-    let view : now_of l s.limits c.push_reserved.new.self.items (s.next + c.len-outs.result) c.remove-pending.new.self.items s.tickets (s.denied + c.from.result) c.max-self-inside.result s.stopped ≡ settled_of (seen s.store r) before o later outcome =
-    rw (journal, rest, n, d, m) (settled_view s.store l r _ before o later outcome c.self.invariant p refl op) in
+    let view : view_of l s.limits c.push_reserved.new.self.items (s.next + c.len-outs.result) c.remove-pending.new.self.items s.tickets (s.denied + c.from.result) c.max-self-inside.result s.stopped ≡ settled_of (seen s.store r) before o later outcome =
+    rw (journal, rest, n, d, m) (settled_view law s.store l r _ before o later outcome c.self.invariant p refl op) in
     let bound = c.denied_in-denied.ensures.bound in
     let small : outcome.denied < 2 ^ 32 = omega (arith, bound, c.denied_in-denied.ensures.value) in
-    let sound = settled_sound s.store l r (vec_capacity s.journal) before o later outcome c.self.invariant p none few small op in
-    rw c.push_reserved.ensures.capacity (subst (λ (n : CoreView). IsSound l n (vec_capacity s.journal)) (sym view) sound)
+    let sound = settled_sound law s.store l r (vec_capacity s.journal) before o later outcome c.self.invariant p none few laws small op in
+    rw c.push_reserved.ensures.capacity (subst (λ (n : CoreView). IsSoundCore l n (vec_capacity s.journal)) (sym view) sound)
 
 pub returns-in-Ok-settle : goal.returns-in-Ok-settle
 returns-in-Ok-settle g c =
+    let law : SettlingLaws = record { fit = c.outs_fit.ensures; place = c.settlings_place.ensures; leave = c.settlings_leave.ensures; free = c.settlings_free.ensures; stay = c.taken_stay.ensures } in
     let s = c.self.inside in
     let r : Rest = record { limits = s.limits; journal = s.journal.items; next = s.next; outs = s.outs.items; tickets = s.tickets; denied = s.denied; peak = s.peak; stopped = s.stopped } in
     let i = c.in-Some.place in
@@ -229,7 +234,7 @@ returns-in-Ok-settle g c =
     let chosen : c.index-chosen.result.now ≡ o = c.index-chosen.ensures ∙ get_or_from_slice_get s.outs.items i o c.index-chosen.result.now at.there in
     let none : s.stopped ≡ None = search rules in
     let shape : g.B.Bodies.graph c.args.bodies.now ≡ s.store.shape = c.requires.graph ∙ sym (ap (λ (n : CoreView). n.shape) c.self.view_is) in
-    let fits = (settling s.store r _ before o later c.self.invariant p).fits in
+    let fits = (settling law s.store r _ before o later c.self.invariant p).fits in
     let made = c.in-Ok.made in
     let outcome : Outcome = outcome_of made [] in
     let lawful : KeepsLaws (g.B.Bodies.graph c.args.bodies.now) o.launch [] s.limits.turns outcome = subst (λ (q : Pending). KeepsLaws (g.B.Bodies.graph c.args.bodies.now) q.launch [] s.limits.turns outcome) chosen c.in-Ok.ensures.lawful in
@@ -238,15 +243,15 @@ returns-in-Ok-settle g c =
     let l = c.settle.new.self in
     let taken : c.remove-pending.result ≡ o = c.remove-pending.ensures.value ∙ get_or_from_slice_get s.outs.items i o c.remove-pending.result at.there in
     let rest : c.remove-pending.new.self.items ≡ before ++ later = c.remove-pending.ensures.items ∙ removed s.outs.items i o at.there in
-    let op : Settles s.store l o s.next made.sent = subst (λ (q : Pending). Settles s.store l q s.next made.sent) chosen (subst (λ (ss : List Sent). Settles s.store l c.index-chosen.result.now s.next ss) c.sent_of-sent.ensures c.in-Ok-settle.ensures.ok) in
+    let op : StoreSettles s.store l o s.next made.sent = subst (λ (q : Pending). StoreSettles s.store l q s.next made.sent) chosen (subst (λ (ss : List Sent). StoreSettles s.store l c.index-chosen.result.now s.next ss) c.sent_of-sent.ensures c.in-Ok-settle.ensures.ok) in
     let n : c.len-outs.result ≡ length made.sent = c.len-outs.ensures ∙ ap (λ (ss : List Sent). length ss) c.sent_of-sent.ensures in
     let d : c.from.result ≡ made.denied = c.from.ensures ∙ c.denied_in-denied.ensures.value in
-    let m : c.max-self-inside.result ≡ max s.peak (bytes_of l.shape 0 l.used) = c.max-self-inside.ensures ∙ ap (λ (b : ℕ). max s.peak b) c.bytes.ensures in
+    let m : c.max-self-inside.result ≡ max s.peak (slot_bytes l.shape 0 l.used) = c.max-self-inside.ensures ∙ ap (λ (b : ℕ). max s.peak b) c.bytes.ensures in
     let named : o.inputs ≡ numbers_out o = named_at before o later (subst AllNamed p c.self.invariant.placed.inputs) in
     let entry : c.entry_for.result ≡ entry_of o.launch o.at s.next outcome = c.entry_for.ensures ∙ ap (λ (q : Pending). (let e : Entry = record { unit = q.launch.unit; at = q.at; inputs = q.inputs; first_out = if c.len-outs.result == 0 then 0 else s.next; outs = c.len-outs.result } in e)) taken ∙ ap (λ (ns : List ℕ). (let e : Entry = record { unit = o.launch.unit; at = o.at; inputs = ns; first_out = if c.len-outs.result == 0 then 0 else s.next; outs = c.len-outs.result } in e)) named ∙ ap (λ (x : ℕ). (let e : Entry = record { unit = o.launch.unit; at = o.at; inputs = numbers_out o; first_out = if x == 0 then 0 else s.next; outs = x } in e)) n in
     let journal : c.push_reserved.new.self.items ≡ s.journal.items ++ entry_of o.launch o.at s.next outcome ∷ [] = c.push_reserved.ensures.items ∙ ap (λ (e : Entry). s.journal.items ++ e ∷ []) entry in
-    let view : now_of l s.limits c.push_reserved.new.self.items (s.next + c.len-outs.result) c.remove-pending.new.self.items s.tickets (s.denied + c.from.result) c.max-self-inside.result s.stopped ≡ settled_of (seen s.store r) before o later outcome =
-    rw (journal, rest, n, d, m) (settled_view s.store l r _ before o later outcome c.self.invariant p refl op) in
+    let view : view_of l s.limits c.push_reserved.new.self.items (s.next + c.len-outs.result) c.remove-pending.new.self.items s.tickets (s.denied + c.from.result) c.max-self-inside.result s.stopped ≡ settled_of (seen s.store r) before o later outcome =
+    rw (journal, rest, n, d, m) (settled_view law s.store l r _ before o later outcome c.self.invariant p refl op) in
     let runs : g.B.Bodies.made c.args.bodies.now o.launch [] s.limits.turns ≡ Some outcome = subst (λ (q : Pending). g.B.Bodies.made c.args.bodies.now q.launch [] s.limits.turns ≡ Some outcome) chosen c.in-Ok.ensures.made in
     let step : TakesStep (g.B.Bodies.made c.args.bodies.now) (seen s.store r) (settled_of (seen s.store r) before o later outcome) c.args.ticket = record { before = before; pending = o; later = later; was_out = p; named = at.named; outcome = outcome; runs = runs; after = refl } in
     rw (← c.self.view_is, view) (none, step)

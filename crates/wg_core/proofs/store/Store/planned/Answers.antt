@@ -1,7 +1,7 @@
 use Rattle.std.proofs.Common.{◌≡◌, ◌*◌, ℕ, List, length, ◌∙◌, ap, subst}
 use Rattle.wg_machine.specs.Bytes.{plan_bytes}
-use Rattle.wg_core.specs.Moves.{bytes_of}
-use Rattle.wg_core.specs.Store.{Kept}
+use Rattle.wg_standing.specs.Moves.{slot_bytes}
+use Rattle.wg_core.specs.Store.{StoreView}
 use Rattle.wg_core.proofs.Keeping.{most_many, least_is}
 use Rattle.wg_core.proofs.store.Store.planned.Goals as goal
 
@@ -13,5 +13,5 @@ bytes_in-requires-clause-lengths c =
 pub returns : goal.returns
 returns c =
     let s = c.self.inside in
-    subst (λ (k : Kept). s.width * c.bytes_in.result ≡ plan_bytes k.shape k.width) c.self.view_is
-    (ap (λ (b : ℕ). s.width * b) (c.bytes_in.ensures.value ∙ ap (bytes_of s.shape 0) c.as_slice.ensures ∙ least_is s.shape s.needs.most c.self.invariant.needs.most))
+    subst (λ (k : StoreView). s.width * c.bytes_in.result ≡ plan_bytes k.shape k.width) c.self.view_is
+    (ap (λ (b : ℕ). s.width * b) (c.bytes_in.ensures.value ∙ ap (slot_bytes s.shape 0) c.as_slice.ensures ∙ least_is s.shape s.needs.most c.self.invariant.needs.most))

@@ -1,0 +1,9 @@
+pub mod Operators
+pub mod Lane
+pub mod Records
+pub mod Named
+pub mod Flow
+pub mod OpMeaning
+pub mod Functions
+pub mod PartMeaning
+pub mod CodeMeaning

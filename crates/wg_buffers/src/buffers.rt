@@ -1,8 +1,10 @@
-ghost use Rattle.std.specs.Prelude.{◌≡◌, ◌≤◌, ℕ, [], length, slice_index, IsOk, IfOk, OnOk, OnErr};
+ghost use Rattle.std.specs.Prelude.{◌≡◌, ◌≤◌, ℕ, [], All, length, slice_index, IsOk, IfOk, OnOk, OnErr};
 ghost use Rattle.wg_machine.specs.Buffers.{buffer_at, with_word, written, all_written};
+ghost use Rattle.wg_buffers.specs.Places.{page_place};
 ghost use Rattle.wg_buffers.specs.Start.{started};
 
 use crate::buffer::Buffer;
+use crate::page::PAGE_WORDS;
 use std::alloc::{AllocError, Global};
 use std::marker::Model;
 use wg_machine::{View, Write};
@@ -18,6 +20,13 @@ pub struct Buffers {
 #[derive(Debug, Drop)]
 pub struct Snapshot {
     buffers: Buffers,
+}
+
+/// A page of a buffer.
+#[derive(Clone, Copy, Debug, PartialEq, Eq)]
+pub struct PagePlace {
+    pub buffer: u32,
+    pub page: u32,
 }
 
 impl Model for Buffers {
@@ -52,33 +61,62 @@ impl Buffers {
 
     /// Makes writes in their order; one out of range does nothing.
     ///
-    /// Any memory is taken before the first write; in this form, which writes in place, there is none to take.
-    pub fn apply(&mut self, writes: &[Write]) -> Result<(), AllocError>
+    /// All memory is taken before the first word changes. Writes to one page that nobody shares are made in place;
+    /// else each page that changes is built anew before any is installed.
+    pub fn apply(&mut self, alloc: Global, writes: &[Write]) -> Result<(), AllocError>
         ensures ok { OnOk result (self.new ≡ all_written self.old writes.now) }
         ensures err { OnErr result (self.new ≡ self.old) }
         ensures empty { writes.now ≡ [] → IsOk result }
     {
-        for write in writes {
-            self.write(*write);
+        let Some(first) = writes.first() else {
+            return Ok(());
+        };
+        let place = place_of(first);
+        if writes.iter().all(|write| place_of(write) == place) {
+            self.write_page(place, writes)
+        } else {
+            self.write_pages(alloc, writes)
+        }
+    }
+
+    /// Writes that all go to one page of one buffer.
+    fn write_page(&mut self, place: PagePlace, writes: &[Write]) -> Result<(), AllocError>
+        requires { All (λ w. page_place w ≡ place) writes.now }
+        ensures ok { OnOk result (self.new ≡ all_written self.old writes.now) }
+        ensures err { OnErr result (self.new ≡ self.old) }
+    {
+        let buffer = place.buffer as usize;
+        if buffer < self.buffers.len() {
+            self.buffers[buffer].write_page(place.page, writes)?;
         }
         Ok(())
     }
 
-    /// A copy that does not change.
+    /// Writes to several pages, of which each that changes is a new one.
+    fn write_pages(&mut self, alloc: Global, writes: &[Write]) -> Result<(), AllocError>
+        ensures ok { OnOk result (self.new ≡ all_written self.old writes.now) }
+        ensures err { OnErr result (self.new ≡ self.old) }
+    {
+        let mut next = self.copy(alloc)?;
+        for write in writes {
+            next.write(*write)?;
+        }
+        *self = next;
+        Ok(())
+    }
+
+    /// The buffers as they are now. It shares the pages.
     pub fn snapshot(&self, alloc: Global) -> Result<Snapshot, AllocError>
         ensures { IfOk result (λ snapshot. snapshot ≡ self.now) }
     {
-        let mut buffers = Vec::new(alloc);
-        for buffer in &self.buffers {
-            buffers.push(buffer.copy(alloc)?)?;
-        }
         Ok(Snapshot {
-            buffers: Buffers { buffers },
+            buffers: self.copy(alloc)?,
         })
     }
 
-    fn write(&mut self, write: Write)
-        ensures { self.new ≡ written self.old write }
+    fn write(&mut self, write: Write) -> Result<(), AllocError>
+        ensures ok { OnOk result (self.new ≡ written self.old write) }
+        ensures err { OnErr result (self.new ≡ self.old) }
     {
         match write {
             Write::Set {
@@ -92,18 +130,43 @@ impl Buffers {
                 value,
             } => {
                 let old = self.word(buffer, word);
-                self.set(buffer, word, old.wrapping_add(value));
+                self.set(buffer, word, old.wrapping_add(value))
             }
         }
     }
 
-    fn set(&mut self, buffer: u32, word: u32, value: Word)
-        ensures { self.new ≡ with_word self.old buffer word value }
+    fn set(&mut self, buffer: u32, word: u32, value: Word) -> Result<(), AllocError>
+        ensures ok { OnOk result (self.new ≡ with_word self.old buffer word value) }
+        ensures err { OnErr result (self.new ≡ self.old) }
     {
         let place = buffer as usize;
         if place < self.buffers.len() {
-            self.buffers[place].set(word, value);
+            self.buffers[place].set(word, value)?;
         }
+        Ok(())
+    }
+}
+
+impl TryCopy for Buffers {
+    /// It shares the pages.
+    fn copy(&self, alloc: Global) -> Result<Self, AllocError> {
+        let mut buffers = Vec::with_capacity(alloc, self.buffers.len())?;
+        for buffer in &self.buffers {
+            buffers.push(buffer.copy(alloc)?)?;
+        }
+        Ok(Buffers { buffers })
+    }
+}
+
+/// The page of a buffer to which a write goes.
+fn place_of(write: &Write) -> PagePlace
+    ensures { result ≡ page_place write.now }
+{
+    match *write {
+        Write::Set { buffer, word, .. } | Write::Add { buffer, word, .. } => PagePlace {
+            buffer,
+            page: word / PAGE_WORDS as u32,
+        },
     }
 }
 
@@ -156,13 +219,13 @@ mod tests {
         }
     }
 
-    /// The four words of the first buffer, with its length.
+    /// Four words of the first buffer, the last two on either side of a page's end, with its length.
     fn seen<V: View>(view: &V) -> ([Word; 4], u32) {
         let words = [
             view.word(0, 0),
             view.word(0, 1),
-            view.word(0, 2),
-            view.word(0, 3),
+            view.word(0, 255),
+            view.word(0, 256),
         ];
         (words, view.length(0))
     }
@@ -173,17 +236,18 @@ mod tests {
         let rows = [
             ([set(0, 1, 7), add(0, 1, 5)], [1, 12, 0, 0]),
             ([add(0, 1, 5), set(0, 1, 7)], [1, 7, 0, 0]),
-            ([set(0, 3, 0xffff_ffff), add(0, 3, 2)], [1, 2, 0, 1]),
-            ([set(0, 4, 9), set(2, 0, 9)], [1, 2, 0, 0]),
+            ([set(0, 256, 0xffff_ffff), add(0, 256, 2)], [1, 2, 0, 1]),
+            ([set(0, 255, 8), add(0, 256, 9)], [1, 2, 8, 9]),
+            ([set(0, 300, 9), set(2, 0, 9)], [1, 2, 0, 0]),
         ];
         for (writes, want) in rows {
             let alloc = rt.alloc();
             let start = [Words::from_slice(alloc, &[1, 2])?, Words::new(alloc)];
-            let mut buffers = Buffers::new(alloc, &[4, 0], &start)?;
+            let mut buffers = Buffers::new(alloc, &[300, 0], &start)?;
             let snapshot = buffers.snapshot(alloc)?;
-            buffers.apply(&writes)?;
-            assert_eq!(rt; seen(&buffers), (want, 4));
-            assert_eq!(rt; seen(&snapshot), ([1, 2, 0, 0], 4));
+            buffers.apply(alloc, &writes)?;
+            assert_eq!(rt; seen(&buffers), (want, 300));
+            assert_eq!(rt; seen(&snapshot), ([1, 2, 0, 0], 300));
         }
         Ok(())
     }

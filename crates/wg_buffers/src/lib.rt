@@ -3,5 +3,6 @@
 
 mod buffer;
 mod buffers;
+mod page;
 
 pub use buffers::{Buffers, Snapshot};

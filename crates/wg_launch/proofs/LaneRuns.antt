@@ -5,13 +5,14 @@ use Rattle.std.proofs.lemmas.List.{get_or-drop, length-drop, append_assoc, drop_
 use Rattle.wg_state.specs.Turns.{Ending, Spent, Done, Action, and_then, pure}
 use Rattle.wg_semantics.specs.declared.state.Frame.{Frame}
 use Rattle.wg_semantics.specs.declared.state.Lane.{Lane}
-use Rattle.wg_state.specs.declared.world.Sender.{Sender}
+use Rattle.wg_machine.specs.declared.shape.Unit.{Unit as Node}
+use Rattle.wg_state.specs.Launching.{outcome_after}
 use Rattle.wg_state.specs.declared.world.World.{World}
 use Rattle.wg_typed.specs.declared.typed_stmt.TypedStmt.{TypedStmt}
-use Rattle.wg_meaning.specs.declared.halt.Halt.{Halt}
-use Rattle.wg_meaning.specs.declared.halt.Halt.TheVariants as halt
-use Rattle.wg_meaning.specs.Says.{Stops}
-use Rattle.wg_semantics.specs.LaunchMeaning.{Bodies, Phase, Run, is_collective, lane_runs, lanes_run, phases_run, phases_after, after_run, launched, first_lanes}
+use Rattle.wg_machine.specs.declared.bodies.Halt.{Halt}
+use Rattle.wg_machine.specs.declared.bodies.Halt.TheVariants as halt
+use Rattle.wg_evaluation.specs.Says.{Stops}
+use Rattle.wg_semantics.specs.LaunchMeaning.{LaneActions, Phase, OnLanes, is_collective, lane_runs, lanes_run, phases_run, phases_after, after_run, first_lanes}
 use Rattle.wg_launch.specs.Launches.{Launches}
 
 -- ---- lanes
@@ -25,7 +26,7 @@ put_one : (done : List Lane) (y : Lane) (o : Ending World (List Lane)) → put_b
 put_one done y Spent = refl
 put_one done y (Done others w t) = ap (λ l. Done l w t) (sym (append_assoc done (y ∷ []) others))
 
-pub lanes_next : (bodies : Bodies) (n m : ℕ) (x y : Lane) (items rest done : List Lane) (w w2 : World) (t t2 : ℕ) → items ≡ x ∷ rest → m ≡ n + 1 → lane_runs (bodies n) x w t ≡ Done y w2 t2 → put_before done (lanes_run bodies n items w t) ≡ put_before (done ++ y ∷ []) (lanes_run bodies m rest w2 t2)
+pub lanes_next : (bodies : LaneActions) (n m : ℕ) (x y : Lane) (items rest done : List Lane) (w w2 : World) (t t2 : ℕ) → items ≡ x ∷ rest → m ≡ n + 1 → lane_runs (bodies n) x w t ≡ Done y w2 t2 → put_before done (lanes_run bodies n items w t) ≡ put_before (done ++ y ∷ []) (lanes_run bodies m rest w2 t2)
 lanes_next bodies n m x y items rest done w w2 t t2 e k one =
     let next : suc n ≡ m = omega (arith, k) in
     ap (λ l. put_before done (lanes_run bodies n l w t)) e
@@ -33,36 +34,36 @@ lanes_next bodies n m x y items rest done w w2 t t2 e k one =
     ∙ put_one done y (lanes_run bodies (suc n) rest w2 t2)
     ∙ ap (λ i. put_before (done ++ y ∷ []) (lanes_run bodies i rest w2 t2)) next
 
-lanes_spent : (bodies : Bodies) (n : ℕ) (x : Lane) (items rest done : List Lane) (w : World) (t : ℕ) → items ≡ x ∷ rest → lane_runs (bodies n) x w t ≡ Spent → put_before done (lanes_run bodies n items w t) ≡ Spent
+lanes_spent : (bodies : LaneActions) (n : ℕ) (x : Lane) (items rest done : List Lane) (w : World) (t : ℕ) → items ≡ x ∷ rest → lane_runs (bodies n) x w t ≡ Spent → put_before done (lanes_run bodies n items w t) ≡ Spent
 lanes_spent bodies n x items rest done w t e one =
     ap (λ l. put_before done (lanes_run bodies n l w t)) e
     ∙ ap (λ (o : Ending World Lane). put_before done (and_then o (λ first. λ w t. and_then (lanes_run bodies (suc n) rest w t) (λ others. pure (first ∷ others))))) one
 
-pub lanes_stop : (bodies : Bodies) (n : ℕ) (x : Lane) (items rest done : List Lane) (w : World) (t : ℕ) (h : Halt) → items ≡ x ∷ rest → Stops (lane_runs (bodies n) x w t) h → Stops (put_before done (lanes_run bodies n items w t)) h
+pub lanes_stop : (bodies : LaneActions) (n : ℕ) (x : Lane) (items rest done : List Lane) (w : World) (t : ℕ) (h : Halt) → items ≡ x ∷ rest → Stops (lane_runs (bodies n) x w t) h → Stops (put_before done (lanes_run bodies n items w t)) h
 lanes_stop bodies n x items rest done w t halt.Turns e one = lanes_spent bodies n x items rest done w t e one
 lanes_stop bodies n x items rest done w t halt.Memory e one = tt
 
-pub lanes_end : (bodies : Bodies) (n : ℕ) (items done : List Lane) (w : World) (t : ℕ) → items ≡ [] → put_before done (lanes_run bodies n items w t) ≡ Done done w t
+pub lanes_end : (bodies : LaneActions) (n : ℕ) (items done : List Lane) (w : World) (t : ℕ) → items ≡ [] → put_before done (lanes_run bodies n items w t) ≡ Done done w t
 lanes_end bodies n items done w t e = ap (λ l. put_before done (lanes_run bodies n l w t)) e ∙ ap (λ l. Done l w t) (append-nil done)
 
 -- ---- phases
 
-run_alone : (bodies : List TypedStmt → Bodies) (more : List Phase) (o : Ending World (List Lane)) → and_then o (phases_run bodies more) ≡ and_then (and_then o (phases_run bodies [])) (phases_run bodies more)
+run_alone : (bodies : List TypedStmt → LaneActions) (more : List Phase) (o : Ending World (List Lane)) → and_then o (phases_run bodies more) ≡ and_then (and_then o (phases_run bodies [])) (phases_run bodies more)
 run_alone bodies more Spent = refl
 run_alone bodies more (Done lanes w t) = refl
 
-run_first : (bodies : List TypedStmt → Bodies) (run : List TypedStmt) (more : List Phase) (lanes : List Lane) (w : World) (t : ℕ) → phases_run bodies (after_run run more) lanes w t ≡ and_then (phases_run bodies (after_run run []) lanes w t) (phases_run bodies more)
+run_first : (bodies : List TypedStmt → LaneActions) (run : List TypedStmt) (more : List Phase) (lanes : List Lane) (w : World) (t : ℕ) → phases_run bodies (after_run run more) lanes w t ≡ and_then (phases_run bodies (after_run run []) lanes w t) (phases_run bodies more)
 run_first bodies [] more lanes w t = refl
 run_first bodies (s ∷ run) more lanes w t = run_alone bodies more (lanes_run (bodies (s ∷ run)) 0 lanes w t)
 
 -- the statements before a collective one, and then that one
-abbrev two_run : (List TypedStmt → Bodies) → List TypedStmt → TypedStmt → List Lane → Action World (List Lane)
+abbrev two_run : (List TypedStmt → LaneActions) → List TypedStmt → TypedStmt → List Lane → Action World (List Lane)
 two_run bodies run x lanes w t = and_then (phases_run bodies (after_run run []) lanes w t) (phases_run bodies (after_run (x ∷ []) []))
 
-phases_next : (bodies : List TypedStmt → Bodies) (run : List TypedStmt) (x : TypedStmt) (rest : List TypedStmt) (lanes : List Lane) (w : World) (t : ℕ) → is_collective x ≡ true → phases_run bodies (phases_after run (x ∷ rest)) lanes w t ≡ and_then (two_run bodies run x lanes w t) (phases_run bodies (phases_after [] rest))
-phases_next bodies run x rest lanes w t c = rw (c, run_first bodies run (Run (x ∷ []) ∷ phases_after [] rest) lanes w t) (after (phases_run bodies (after_run run []) lanes w t))
+phases_next : (bodies : List TypedStmt → LaneActions) (run : List TypedStmt) (x : TypedStmt) (rest : List TypedStmt) (lanes : List Lane) (w : World) (t : ℕ) → is_collective x ≡ true → phases_run bodies (phases_after run (x ∷ rest)) lanes w t ≡ and_then (two_run bodies run x lanes w t) (phases_run bodies (phases_after [] rest))
+phases_next bodies run x rest lanes w t c = rw (c, run_first bodies run (OnLanes (x ∷ []) ∷ phases_after [] rest) lanes w t) (after (phases_run bodies (after_run run []) lanes w t))
   where
-    after : (o : Ending World (List Lane)) → and_then o (phases_run bodies (Run (x ∷ []) ∷ phases_after [] rest)) ≡ and_then (and_then o (phases_run bodies (after_run (x ∷ []) []))) (phases_run bodies (phases_after [] rest))
+    after : (o : Ending World (List Lane)) → and_then o (phases_run bodies (OnLanes (x ∷ []) ∷ phases_after [] rest)) ≡ and_then (and_then o (phases_run bodies (after_run (x ∷ []) []))) (phases_run bodies (phases_after [] rest))
     after Spent = refl
     after (Done l1 w1 t1) = run_first bodies (x ∷ []) (phases_after [] rest) l1 w1 t1
 
@@ -99,10 +100,10 @@ phases_plain body from at x le lt is c =
     ∙ sym (ap (phases_after (between body from at)) (cut_at body at x lt is))
 
 -- the run of statements up to a collective one, and then that one
-abbrev pub both_run : (List TypedStmt → Bodies) → List TypedStmt → ℕ → ℕ → List Lane → Action World (List Lane)
+abbrev pub both_run : (List TypedStmt → LaneActions) → List TypedStmt → ℕ → ℕ → List Lane → Action World (List Lane)
 both_run bodies body from at lanes w t = and_then (phases_run bodies (after_run (between body from at) []) lanes w t) (phases_run bodies (after_run (between body at (at + 1)) []))
 
-pub phases_both : (bodies : List TypedStmt → Bodies) (body : List TypedStmt) (from at : ℕ) (x : TypedStmt) (lanes : List Lane) (w : World) (t : ℕ) → at < length body → x ≡ get_or body at x → is_collective x ≡ true → phases_run bodies (phases_after (between body from at) (drop at body)) lanes w t ≡ and_then (both_run bodies body from at lanes w t) (phases_run bodies (phases_after [] (drop (at + 1) body)))
+pub phases_both : (bodies : List TypedStmt → LaneActions) (body : List TypedStmt) (from at : ℕ) (x : TypedStmt) (lanes : List Lane) (w : World) (t : ℕ) → at < length body → x ≡ get_or body at x → is_collective x ≡ true → phases_run bodies (phases_after (between body from at) (drop at body)) lanes w t ≡ and_then (both_run bodies body from at lanes w t) (phases_run bodies (phases_after [] (drop (at + 1) body)))
 phases_both bodies body from at x lanes w t lt is c =
     let run = between body from at in
     let rest = drop (at + 1) body in
@@ -110,13 +111,13 @@ phases_both bodies body from at x lanes w t lt is c =
     ∙ phases_next bodies run x rest lanes w t c
     ∙ ap (λ l. and_then (and_then (phases_run bodies (after_run run []) lanes w t) (phases_run bodies (after_run l []))) (phases_run bodies (phases_after [] rest))) (sym (one_at body at x lt is))
 
-pub phases_on : (bodies : List TypedStmt → Bodies) (body : List TypedStmt) (from at : ℕ) (x : TypedStmt) (lanes l2 : List Lane) (w w2 : World) (t t2 : ℕ) → at < length body → x ≡ get_or body at x → is_collective x ≡ true → both_run bodies body from at lanes w t ≡ Done l2 w2 t2 → phases_run bodies (phases_after (between body from at) (drop at body)) lanes w t ≡ phases_run bodies (phases_after (between body (at + 1) (at + 1)) (drop (at + 1) body)) l2 w2 t2
+pub phases_on : (bodies : List TypedStmt → LaneActions) (body : List TypedStmt) (from at : ℕ) (x : TypedStmt) (lanes l2 : List Lane) (w w2 : World) (t t2 : ℕ) → at < length body → x ≡ get_or body at x → is_collective x ≡ true → both_run bodies body from at lanes w t ≡ Done l2 w2 t2 → phases_run bodies (phases_after (between body from at) (drop at body)) lanes w t ≡ phases_run bodies (phases_after (between body (at + 1) (at + 1)) (drop (at + 1) body)) l2 w2 t2
 phases_on bodies body from at x lanes l2 w w2 t t2 lt is c h =
     phases_both bodies body from at x lanes w t lt is c
     ∙ ap (λ (o : Ending World (List Lane)). and_then o (phases_run bodies (phases_after [] (drop (at + 1) body)))) h
     ∙ ap (λ run. phases_run bodies (phases_after run (drop (at + 1) body)) l2 w2 t2) (sym (none_at body (at + 1)))
 
-pub phases_stop : (bodies : List TypedStmt → Bodies) (body : List TypedStmt) (from at : ℕ) (x : TypedStmt) (lanes : List Lane) (w : World) (t : ℕ) (h : Halt) → at < length body → x ≡ get_or body at x → is_collective x ≡ true → Stops (both_run bodies body from at lanes w t) h → Stops (phases_run bodies (phases_after (between body from at) (drop at body)) lanes w t) h
+pub phases_stop : (bodies : List TypedStmt → LaneActions) (body : List TypedStmt) (from at : ℕ) (x : TypedStmt) (lanes : List Lane) (w : World) (t : ℕ) (h : Halt) → at < length body → x ≡ get_or body at x → is_collective x ≡ true → Stops (both_run bodies body from at lanes w t) h → Stops (phases_run bodies (phases_after (between body from at) (drop at body)) lanes w t) h
 phases_stop bodies body from at x lanes w t halt.Turns lt is c stops =
     phases_both bodies body from at x lanes w t lt is c
     ∙ ap (λ (o : Ending World (List Lane)). and_then o (phases_run bodies (phases_after [] (drop (at + 1) body)))) stops
@@ -124,9 +125,9 @@ phases_stop bodies body from at x lanes w t halt.Memory lt is c stops = tt
 
 -- ---- launches
 
-pub launch_stops : (outputs : List Sender) (turns : ℕ) (o : Ending World (List Lane)) (h : Halt) → Stops o h → Launches (launched outputs turns o) (Err h)
-launch_stops outputs turns o halt.Turns stops = ap (launched outputs turns) stops
-launch_stops outputs turns o halt.Memory stops = tt
+pub launch_stops : (unit : Node) (turns : ℕ) (o : Ending World (List Lane)) (h : Halt) → Stops o h → Launches (outcome_after unit turns o) (Err h)
+launch_stops unit turns o halt.Turns stops = ap (outcome_after unit turns) stops
+launch_stops unit turns o halt.Memory stops = tt
 
 pub lanes_more : (frame : ℕ → Frame) (lane count : ℕ) (list more : List Lane) (f : Frame) → lane < count → f ≡ frame lane → more ≡ list ++ record { frame = f; returned = false } ∷ [] → more ++ first_lanes frame (lane + 1) (count - (lane + 1)) ≡ list ++ first_lanes frame lane (count - lane)
 lanes_more frame lane count list more f lt is pushed =

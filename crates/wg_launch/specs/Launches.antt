@@ -1,11 +1,13 @@
 -- What the program's answer says of a launch.
 use Rattle.std.specs.Prelude.{◌≡◌, ⊤, Option, Some, None, Result, Ok, Err}
-use Rattle.wg_semantics.specs.declared.state.Launched.{Launched}
-use Rattle.wg_meaning.specs.declared.halt.Halt.{Halt}
-use Rattle.wg_meaning.specs.declared.halt.Halt.TheVariants as halt
+use Rattle.wg_machine.specs.declared.bodies.Halt.{Halt}
+use Rattle.wg_machine.specs.declared.bodies.Halt.TheVariants as halt
+use Rattle.wg_machine.specs.declared.launch.Made.{Made}
+use Rattle.wg_machine.specs.Buffers.{Buffers}
+use Rattle.wg_machine.specs.LaunchMeaning.{Outcome, outcome_of}
 
--- `Turns` just where the launch is spent; want of memory says nothing
-abbrev pub Launches : Option Launched → Result Launched Halt → Type 0
-Launches o (Ok l) = o ≡ Some l
+-- what it made and the buffers after it; `Turns` just where the launch is spent; want of memory says nothing
+abbrev pub Launches : Option Outcome → Result (Made × Buffers) Halt → Type 0
+Launches o (Ok done) = o ≡ Some (outcome_of done.0 done.1)
 Launches o (Err halt.Turns) = o ≡ None
 Launches o (Err halt.Memory) = ⊤

@@ -1,25 +1,28 @@
 ghost use Rattle.std.specs.Prelude.{◌≡◌, []};
 ghost use Rattle.wg_state.specs.Turns.{and_then};
-ghost use Rattle.wg_semantics.specs.LaunchMeaning.{setting_of as entry_setting, entry_bodies, has_returned, is_collective, lane_runs, lanes_run, phases_run, phases_of, after_run};
+ghost use Rattle.wg_semantics.specs.LaunchMeaning.{entry_setting, entry_does, has_returned, is_collective, lane_runs, lanes_run, phases_run, phases_of, after_run};
 ghost use Rattle.wg_values.specs.Pieces.{setting_of};
-ghost use Rattle.wg_meaning.specs.Says.{Says};
+ghost use Rattle.wg_evaluation.specs.Says.{Says};
 
 use std::alloc::Global;
 use std::mem;
-use wg_meaning::{Halt, Run, body};
-use wg_semantics::{Flow, Frame, Lane, NodeUnit};
+use wg_evaluation::Run;
+use wg_machine::{Halt, Unit};
+use wg_meaning::body;
+use wg_semantics::{Flow, Frame, Lane};
 use wg_typed::{Typed, TypedFunction, TypedStmt};
 use wg_values::{Setting, Structs};
-use wg_words::{Items, WordLists};
+use wg_words::{Items, Word, WordLists};
 
-/// The entry function of a launch, with its text, the text's structs and its unit.
+/// The entry function of a launch, with its text, the text's structs, its threads and its unit.
 #[derive(Clone, Copy)]
 pub struct Entry<'a> {
     pub alloc: Global,
     pub text: &'a Typed,
     pub structs: &'a Structs<'a>,
     pub function: &'a TypedFunction,
-    pub unit: &'a NodeUnit,
+    pub threads: [Word; 3],
+    pub unit: &'a Unit,
     ghost same: { structs.now ≡ text.now.structs },
 }
 
@@ -61,7 +64,7 @@ fn run_body(
     number: u32,
     run: &mut Run,
 ) -> Result<Flow, Halt>
-    ensures { Says (entry_bodies entry.now.text.now entry.now.function.now entry.now.unit.now statements.now number run.old.state run.old.turns) result run.new.state run.new.turns }
+    ensures { Says (entry_does entry.now.text.now entry.now.function.now entry.now.unit.now statements.now number run.old.state run.old.turns) result run.new.state run.new.turns }
 {
     body(&setting_at(entry, number), statements, run)
 }
@@ -74,7 +77,7 @@ fn run_lane(
     lane: Lane,
     run: &mut Run,
 ) -> Result<Lane, Halt>
-    ensures { Says (lane_runs (entry_bodies entry.now.text.now entry.now.function.now entry.now.unit.now statements.now number) lane run.old.state.world run.old.turns) result run.new.state.world run.new.turns }
+    ensures { Says (lane_runs (entry_does entry.now.text.now entry.now.function.now entry.now.unit.now statements.now number) lane run.old.state.world run.old.turns) result run.new.state.world run.new.turns }
 {
     if lane.returned {
         return Ok(lane);
@@ -99,7 +102,7 @@ fn run_lanes(
     lanes: Items<Lane>,
     run: &mut Run,
 ) -> Result<Items<Lane>, Halt>
-    ensures { Says (lanes_run (entry_bodies entry.now.text.now entry.now.function.now entry.now.unit.now statements.now) 0 lanes run.old.state.world run.old.turns) result run.new.state.world run.new.turns }
+    ensures { Says (lanes_run (entry_does entry.now.text.now entry.now.function.now entry.now.unit.now statements.now) 0 lanes run.old.state.world run.old.turns) result run.new.state.world run.new.turns }
 {
     let mut done = Items::new(entry.alloc);
     let mut number: u32 = 0;
@@ -124,7 +127,7 @@ fn run_some(
     lanes: Items<Lane>,
     run: &mut Run,
 ) -> Result<Items<Lane>, Halt>
-    ensures { Says (phases_run (entry_bodies entry.now.text.now entry.now.function.now entry.now.unit.now) (after_run statements.now []) lanes run.old.state.world run.old.turns) result run.new.state.world run.new.turns }
+    ensures { Says (phases_run (entry_does entry.now.text.now entry.now.function.now entry.now.unit.now) (after_run statements.now []) lanes run.old.state.world run.old.turns) result run.new.state.world run.new.turns }
 {
     if statements.is_empty() {
         Ok(lanes)
@@ -161,7 +164,7 @@ fn run_two(
     lanes: Items<Lane>,
     run: &mut Run,
 ) -> Result<Items<Lane>, Halt>
-    ensures { let bodies = entry_bodies entry.now.text.now entry.now.function.now entry.now.unit.now in
+    ensures { let bodies = entry_does entry.now.text.now entry.now.function.now entry.now.unit.now in
         Says (and_then (phases_run bodies (after_run before.now []) lanes run.old.state.world run.old.turns) (phases_run bodies (after_run collective.now []))) result run.new.state.world run.new.turns }
 {
     let lanes = match run_some(entry, before, lanes, run) {
@@ -173,7 +176,7 @@ fn run_two(
 
 /// Runs the phases of the entry function, each on all lanes.
 pub fn run_phases(entry: &Entry<'_>, lanes: Items<Lane>, run: &mut Run) -> Result<Items<Lane>, Halt>
-    ensures { Says (phases_run (entry_bodies entry.now.text.now entry.now.function.now entry.now.unit.now) (phases_of entry.now.function.now.body) lanes run.old.state.world run.old.turns) result run.new.state.world run.new.turns }
+    ensures { Says (phases_run (entry_does entry.now.text.now entry.now.function.now entry.now.unit.now) (phases_of entry.now.function.now.body) lanes run.old.state.world run.old.turns) result run.new.state.world run.new.turns }
 {
     let statements = entry.function.body.as_slice();
     let mut lanes = lanes;

@@ -2,9 +2,9 @@ ghost use Rattle.std.specs.Prelude.{◌≡◌, ◌++◌, IfOk, OnOk};
 ghost use Rattle.wg_state.specs.Sending.{is_of, sent_by, sent_to, sent_at, sent_from, sent_through};
 
 use std::alloc::{AllocError, Global};
-use wg_semantics::SentRecord;
-use wg_state::{Grant, Sender};
-use wg_words::{Items, Words};
+use wg_machine::{Output, Sent, SentList};
+use wg_state::Grant;
+use wg_words::Words;
 
 fn belongs(output: u64, element: u64, g: &Grant) -> bool
     ensures { result ≡ is_of output element g.now }
@@ -13,12 +13,12 @@ fn belongs(output: u64, element: u64, g: &Grant) -> bool
 }
 
 /// Sends the records of a grant.
-fn send(alloc: Global, unit: u32, g: &Grant, sent: &mut Items<SentRecord>) -> Result<(), AllocError>
+fn send(alloc: Global, unit: u32, g: &Grant, sent: &mut SentList) -> Result<(), AllocError>
     ensures { OnOk result (sent.new ≡ sent.old ++ sent_by unit g.now) }
 {
     for item in g.items.as_slice() {
         let words = Words::from_slice(alloc, item.as_slice())?;
-        sent.push(SentRecord { unit, words })?;
+        sent.push(Sent { unit, words })?;
     }
     Ok(())
 }
@@ -30,7 +30,7 @@ fn send_to(
     element: u64,
     unit: u32,
     grants: &[Grant],
-    sent: &mut Items<SentRecord>,
+    sent: &mut SentList,
 ) -> Result<(), AllocError>
     ensures { OnOk result (sent.new ≡ sent.old ++ sent_to output element unit grants.now) }
 {
@@ -48,7 +48,7 @@ fn send_at(
     element: u64,
     target: Option<u32>,
     grants: &[Grant],
-    sent: &mut Items<SentRecord>,
+    sent: &mut SentList,
 ) -> Result<(), AllocError>
     ensures { OnOk result (sent.new ≡ sent.old ++ sent_at output element target grants.now) }
 {
@@ -64,7 +64,7 @@ fn send_from(
     output: u64,
     targets: &[Option<u32>],
     grants: &[Grant],
-    sent: &mut Items<SentRecord>,
+    sent: &mut SentList,
 ) -> Result<(), AllocError>
     ensures { OnOk result (sent.new ≡ sent.old ++ sent_from output 0 targets.now grants.now) }
 {
@@ -84,17 +84,17 @@ fn send_from(
 /// The records that a launch sends, by output and element.
 pub fn all_sent(
     alloc: Global,
-    outputs: &[Sender],
+    outputs: &[Output],
     grants: &[Grant],
-) -> Result<Items<SentRecord>, AllocError>
+) -> Result<SentList, AllocError>
     ensures { IfOk result (λ sent. sent ≡ sent_through 0 outputs.now grants.now) }
 {
-    let mut sent = Items::new(alloc);
+    let mut sent = SentList::new(alloc);
     for output in 0..outputs.len() {
         send_from(
             alloc,
             output as u64,
-            outputs[output].targets.as_slice(),
+            outputs[output].elements.as_slice(),
             grants,
             &mut sent,
         )?;

@@ -1,6 +1,6 @@
 ghost use Rattle.std.specs.Prelude.{◌≡◌, ◌*◌, ◌/◌, ◌%◌, IfOk, map, take};
 ghost use Rattle.wg_semantics.specs.LaunchMeaning.{system_named, system_words, entry_value, first_frame, first_shared};
-ghost use Rattle.wg_state.specs.Lanes.{place_of, dispatch_of};
+ghost use Rattle.wg_state.specs.Lanes.{coordinates_of, dispatch_of};
 
 use std::alloc::{AllocError, Global};
 use wg_semantics::Frame;
@@ -27,21 +27,21 @@ fn remainder(a: Word, b: Word) -> Word
     }
 }
 
-/// A lane's place in its group of so many threads.
-pub fn place(threads: [Word; 3], lane: u32) -> [Word; 3]
-    ensures { result ≡ place_of threads lane }
+/// The coordinates of a number in a box of so many, x running fastest.
+pub fn coordinates(size: [Word; 3], number: u32) -> [Word; 3]
+    ensures { result ≡ coordinates_of size number }
 {
-    let [x, y, _] = threads;
-    let row = quotient(u64::from(lane), u64::from(x)) as u32;
-    let layer = quotient(u64::from(lane), u64::from(x) * u64::from(y)) as u32;
-    [remainder(lane, x), remainder(row, y), layer]
+    let [x, y, _] = size;
+    let row = quotient(u64::from(number), u64::from(x)) as u32;
+    let layer = quotient(u64::from(number), u64::from(x) * u64::from(y)) as u32;
+    [remainder(number, x), remainder(row, y), layer]
 }
 
 /// `SV_DispatchThreadID`.
 fn dispatch(group: [Word; 3], threads: [Word; 3], lane: u32) -> [Word; 3]
     ensures { result ≡ dispatch_of group threads lane }
 {
-    let at = place(threads, lane);
+    let at = coordinates(threads, lane);
     [
         add(mul(group[0], threads[0]), at[0]),
         add(mul(group[1], threads[1]), at[1]),
@@ -62,7 +62,7 @@ fn named_value(
     if name == b"SV_GroupID".as_slice() {
         Words::from_slice(alloc, &group)
     } else if name == b"SV_GroupThreadID".as_slice() {
-        Words::from_slice(alloc, &place(threads, lane))
+        Words::from_slice(alloc, &coordinates(threads, lane))
     } else if name == b"SV_DispatchThreadID".as_slice() {
         Words::from_slice(alloc, &dispatch(group, threads, lane))
     } else if name == b"SV_GroupIndex".as_slice() {

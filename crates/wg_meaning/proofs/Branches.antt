@@ -17,9 +17,9 @@ use Rattle.wg_semantics.specs.Calls.{Callee}
 use Rattle.wg_semantics.specs.ExprMeaning.{seen, word_of, when}
 use Rattle.wg_semantics.specs.StepMeaning.{steps_do, started}
 use Rattle.wg_semantics.specs.StmtMeaning.{does, stmt_step, loop, test_of, maybe_else}
-use Rattle.wg_meaning.specs.declared.halt.Halt.{Halt}
+use Rattle.wg_machine.specs.declared.bodies.Halt.{Halt}
 use Rattle.wg_meaning.specs.Flows.{begun}
-use Rattle.wg_meaning.specs.Says.{Stops}
+use Rattle.wg_evaluation.specs.Says.{Stops}
 use Rattle.wg_meaning.proofs.Loops.{is_true_at}
 use Rattle.wg_meaning.proofs.Sequences.{stops_next, stops_same}
 

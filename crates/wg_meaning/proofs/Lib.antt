@@ -1,7 +1,6 @@
 pub mod Branches
-pub mod Callees
-pub mod Calling
 pub mod Loops
 pub mod Numbered
 pub mod Sequences
+pub mod Within
 pub mod Words

@@ -9,9 +9,9 @@ use Rattle.wg_semantics.specs.declared.state.Flow.TheVariants as flow
 use Rattle.wg_semantics.specs.declared.state.State.{State}
 use Rattle.wg_semantics.specs.ExprMeaning.{when}
 use Rattle.wg_semantics.specs.StmtMeaning.{after_body, loop, loop_below}
-use Rattle.wg_meaning.specs.declared.halt.Halt.{Halt}
+use Rattle.wg_machine.specs.declared.bodies.Halt.{Halt}
 use Rattle.wg_meaning.specs.Flows.{loop_left, entered as entered_body}
-use Rattle.wg_meaning.specs.Says.{Stops}
+use Rattle.wg_evaluation.specs.Says.{Stops}
 use Rattle.wg_meaning.proofs.Sequences.{stops_next, stops_same}
 
 pub is_true_at : (n : ℕ) → n ≢ 0 → is_true n ≡ true

@@ -1,10 +1,15 @@
 -- What statements and loops do after a part of them has ended.
-use Rattle.std.specs.Prelude.{Bool, true, false, Option, Some, None, Result, Ok, Err}
-use Rattle.wg_state.specs.Turns.{Action, ◌>>◌, turn}
+use Rattle.std.specs.Prelude.{ℕ, Bool, true, false, Option, Some, None, Result, Ok, Err}
+use Rattle.wg_state.specs.Turns.{Action, ◌>>=◌, ◌>>◌, pure, turn}
 use Rattle.wg_semantics.specs.declared.state.State.{State}
 use Rattle.wg_semantics.specs.declared.state.Flow.{Flow}
 use Rattle.wg_semantics.specs.declared.state.Flow.TheVariants as flow
-use Rattle.wg_meaning.specs.declared.halt.Halt.{Halt}
+use Rattle.wg_semantics.specs.declared.state.Spot.{Spot}
+use Rattle.wg_semantics.specs.Places.{Setting}
+use Rattle.wg_semantics.specs.Calls.{Seen}
+use Rattle.wg_semantics.specs.ExprMeaning.{word_of}
+use Rattle.wg_semantics.specs.StepMeaning.{raw_word}
+use Rattle.wg_machine.specs.declared.bodies.Halt.{Halt}
 
 -- whether the statements after one run
 abbrev pub goes_on : Flow → Bool
@@ -31,3 +36,9 @@ loop_left (flow.Returned words) = Some (flow.Returned words)
 abbrev pub next_result : Result (Unit {0}) Halt → Result Flow Halt
 next_result (Ok u) = Ok flow.Next
 next_result (Err h) = Err h
+
+-- the word of a raw buffer that an interlocked form changes
+abbrev pub raw_destination_of : Setting → ℕ → Seen → Action State Spot
+raw_destination_of setting buffer address = do
+  at ← word_of setting address
+  pure (raw_word buffer at)

@@ -3,14 +3,14 @@ ghost use Rattle.wg_semantics.specs.FunctionMeaning.{callees_of};
 ghost use Rattle.wg_semantics.specs.StmtMeaning.{body_does};
 ghost use Rattle.wg_values.specs.Pieces.{setting_of};
 ghost use Rattle.wg_meaning.specs.Reach.{reach_of};
-ghost use Rattle.wg_meaning.specs.Says.{Says};
+ghost use Rattle.wg_evaluation.specs.Says.{Runs};
 
-use crate::calls::{Calls, Run};
 use crate::functions::numbered;
-use crate::halt::Halt;
 use crate::stmt::block;
 use sqlite_items::Boxed;
 use std::alloc::{AllocError, Global};
+use wg_evaluation::{Calls, Run};
+use wg_machine::Halt;
 use wg_semantics::Flow;
 use wg_typed::TypedStmt;
 use wg_values::Setting;
@@ -61,7 +61,7 @@ fn depth_of(alloc: Global, count: usize) -> Result<Depth, AllocError>
 
 /// Runs statements of a function that may call those before it.
 pub fn body(setting: &Setting<'_>, body: &[TypedStmt], run: &mut Run) -> Result<Flow, Halt>
-    ensures { Says (body_does (setting_of setting.now) (callees_of (setting_of setting.now) setting.now.earlier.now) body.now run.old.state run.old.turns) result run.new.state run.new.turns }
+    ensures { Runs (body_does (setting_of setting.now) (callees_of (setting_of setting.now) setting.now.earlier.now) body.now) run.old result run.new }
 {
     let depth = depth_of(setting.alloc, setting.earlier.len())?;
     block(setting, &depth, body, run)

@@ -3,14 +3,14 @@ ghost use Rattle.wg_semantics.specs.Calls.{callee_at, on_world};
 ghost use Rattle.wg_semantics.specs.FunctionMeaning.{result_words, result_of, function_does};
 ghost use Rattle.wg_values.specs.Pieces.{setting_of};
 ghost use Rattle.std.specs.Option.{option_copied};
-ghost use Rattle.wg_meaning.specs.Says.{Says, callees_in};
+ghost use Rattle.wg_evaluation.specs.Says.{Runs, callees_in};
 
-use crate::calls::{Calls, Run};
-use crate::halt::Halt;
 use crate::stmt::block;
 use std::alloc::AllocError;
 use std::mem;
-use wg_semantics::{Flow, Frame};
+use wg_evaluation::{Calls, Run};
+use wg_machine::Halt;
+use wg_semantics::{Flow, Frame, callees_are_functions};
 use wg_typed::{TypeTree, TypedFunction};
 use wg_values::{Setting, fresh, zero_words};
 use wg_words::{WordLists, Words};
@@ -46,7 +46,7 @@ fn function<C: Calls>(
     values: WordLists,
     run: &mut Run,
 ) -> Result<(Words, WordLists), Halt>
-    ensures says { Says (on_world (function_does (setting_of setting.now) (callees_in (C.reach calls.now) setting.now) f.now values) run.old.state run.old.turns) result run.new.state run.new.turns }
+    ensures says { Runs (on_world (within (C.reach calls.now) setting.now function_does f.now values)) run.old result run.new }
     ensures turns { run.new.turns ≤ run.old.turns }
 {
     let locals = fresh(setting.alloc, setting.structs, f.locals.as_slice())?;
@@ -55,17 +55,14 @@ fn function<C: Calls>(
         locals,
     };
     let callers = mem::replace(&mut run.state.frame, frame);
-    let end = match block(setting, calls, f.body.as_slice(), run) {
-        Ok(end) => end,
-        Err(halt) => return Err(halt),
-    };
+    let end = block(setting, calls, f.body.as_slice(), run)?;
     let frame = mem::replace(&mut run.state.frame, callers);
     let words = result_at(setting, f.result, end)?;
     Ok((words, frame.parameters))
 }
 
 /// The function of a number, where calls reach one more than those that it may call itself.
-#[tactic(auto, using(crate::proofs::Callees::got_within, crate::proofs::Callees::got_beyond))]
+#[tactic(auto, using(crate::proofs::Within::got_within, crate::proofs::Within::got_beyond))]
 fn next_callee<'a, C: Calls>(
     setting: &Setting<'a>,
     calls: &C,
@@ -89,9 +86,10 @@ pub fn numbered<C: Calls>(
     values: WordLists,
     run: &mut Run,
 ) -> Result<(Words, WordLists), Halt>
-    ensures says { Says (on_world ((callee_at (callees_in (suc (C.reach calls.now)) setting.now) number).does values) run.old.state run.old.turns) result run.new.state run.new.turns }
+    ensures says { Runs (on_world ((callee_at (callees_in (suc (C.reach calls.now)) setting.now) number).does values)) run.old result run.new }
     ensures turns { run.new.turns ≤ run.old.turns }
 {
+    callees_are_functions();
     let f = match next_callee(setting, calls, number) {
         Some(f) => f,
         None => return Ok((Words::new(setting.alloc), WordLists::new(setting.alloc))),

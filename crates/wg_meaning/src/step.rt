@@ -4,13 +4,13 @@ ghost use Rattle.wg_semantics.specs.declared.state.Spot.TheVariants as spot;
 ghost use Rattle.wg_semantics.specs.ExprMeaning.{seen};
 ghost use Rattle.wg_semantics.specs.StepMeaning.{assigned, updated, changed, raw_stored, exchanged, signedness, destination_of, maybe_word, maybe_spot, word_at as word_there, interlocked, step_does, steps_do, start_value, declared_as, all_declared, started};
 ghost use Rattle.wg_values.specs.Pieces.{setting_of};
-ghost use Rattle.wg_meaning.specs.Says.{Says, callees_in, raw_destination_of};
+ghost use Rattle.wg_evaluation.specs.Says.{Runs, within};
+ghost use Rattle.wg_meaning.specs.Flows.{raw_destination_of};
 
-use crate::calls::{Calls, Run};
-use crate::expr::{call, spot, value, word};
-use crate::halt::Halt;
 use sqlite_items::Items;
 use std::alloc::AllocError;
+use wg_evaluation::{Calls, Run, call, spot, value, word};
+use wg_machine::Halt;
 use wg_semantics::{Spot, State, Store};
 use wg_tree::{BinaryOperator, Scalar, StepOperator};
 use wg_typed::{Destination, Interlocked, InterlockedForm, TypeTree, TypedDeclarator, TypedExpr, TypedStart, TypedStep};
@@ -27,17 +27,11 @@ fn assign<C: Calls>(
     e: &TypedExpr,
     run: &mut Run,
 ) -> Result<(), Halt>
-    ensures says { Says (assigned (setting_of setting.now) (seen (setting_of setting.now) (callees_in (C.reach calls.now) setting.now) target.now) (seen (setting_of setting.now) (callees_in (C.reach calls.now) setting.now) e.now) run.old.state run.old.turns) result run.new.state run.new.turns }
+    ensures says { Runs (assigned (setting_of setting.now) (within (C.reach calls.now) setting.now seen target.now) (within (C.reach calls.now) setting.now seen e.now)) run.old result run.new }
     ensures turns { run.new.turns ≤ run.old.turns }
 {
-    let at = match spot(setting, calls, target, run) {
-        Ok(at) => at,
-        Err(halt) => return Err(halt),
-    };
-    let words = match value(setting, calls, e, run) {
-        Ok(words) => words,
-        Err(halt) => return Err(halt),
-    };
+    let at = spot(setting, calls, target, run)?;
+    let words = value(setting, calls, e, run)?;
     write(setting.alloc, &at, words.as_slice(), &mut run.state);
     Ok(())
 }
@@ -52,17 +46,11 @@ fn update<C: Calls>(
     e: &TypedExpr,
     run: &mut Run,
 ) -> Result<(), Halt>
-    ensures says { Says (updated (setting_of setting.now) (seen (setting_of setting.now) (callees_in (C.reach calls.now) setting.now) target.now) operator by (seen (setting_of setting.now) (callees_in (C.reach calls.now) setting.now) e.now) run.old.state run.old.turns) result run.new.state run.new.turns }
+    ensures says { Runs (updated (setting_of setting.now) (within (C.reach calls.now) setting.now seen target.now) operator by (within (C.reach calls.now) setting.now seen e.now)) run.old result run.new }
     ensures turns { run.new.turns ≤ run.old.turns }
 {
-    let at = match spot(setting, calls, target, run) {
-        Ok(at) => at,
-        Err(halt) => return Err(halt),
-    };
-    let right = match value(setting, calls, e, run) {
-        Ok(words) => words,
-        Err(halt) => return Err(halt),
-    };
+    let at = spot(setting, calls, target, run)?;
+    let right = value(setting, calls, e, run)?;
     let left = fetch(setting, target.of, &at, &run.state)?;
     let left = convert(setting.alloc, target.of, by, left.as_slice())?;
     let both = combine_all(
@@ -85,13 +73,10 @@ fn change<C: Calls>(
     operator: StepOperator,
     run: &mut Run,
 ) -> Result<(), Halt>
-    ensures says { Says (changed (setting_of setting.now) (seen (setting_of setting.now) (callees_in (C.reach calls.now) setting.now) target.now) operator run.old.state run.old.turns) result run.new.state run.new.turns }
+    ensures says { Runs (changed (setting_of setting.now) (within (C.reach calls.now) setting.now seen target.now) operator) run.old result run.new }
     ensures turns { run.new.turns ≤ run.old.turns }
 {
-    let at = match spot(setting, calls, target, run) {
-        Ok(at) => at,
-        Err(halt) => return Err(halt),
-    };
+    let at = spot(setting, calls, target, run)?;
     let words = fetch(setting, target.of, &at, &run.state)?;
     let words = step_all(setting.alloc, operator, scalar(target.of), words.as_slice())?;
     write(setting.alloc, &at, words.as_slice(), &mut run.state);
@@ -116,17 +101,11 @@ fn raw_store<C: Calls>(
     e: &TypedExpr,
     run: &mut Run,
 ) -> Result<(), Halt>
-    ensures says { Says (raw_stored (setting_of setting.now) buffer (seen (setting_of setting.now) (callees_in (C.reach calls.now) setting.now) address.now) (seen (setting_of setting.now) (callees_in (C.reach calls.now) setting.now) e.now) run.old.state run.old.turns) result run.new.state run.new.turns }
+    ensures says { Runs (raw_stored (setting_of setting.now) buffer (within (C.reach calls.now) setting.now seen address.now) (within (C.reach calls.now) setting.now seen e.now)) run.old result run.new }
     ensures turns { run.new.turns ≤ run.old.turns }
 {
-    let at = match word(setting, calls, address, run) {
-        Ok(at) => at,
-        Err(halt) => return Err(halt),
-    };
-    let words = match value(setting, calls, e, run) {
-        Ok(words) => words,
-        Err(halt) => return Err(halt),
-    };
+    let at = word(setting, calls, address, run)?;
+    let words = value(setting, calls, e, run)?;
     write(
         setting.alloc,
         &raw_place(buffer, at),
@@ -166,7 +145,7 @@ fn destination<C: Calls>(
     destination: &Destination,
     run: &mut Run,
 ) -> Result<Spot, Halt>
-    ensures says { Says (destination_of (setting_of setting.now) (callees_in (C.reach calls.now) setting.now) destination.now run.old.state run.old.turns) result run.new.state run.new.turns }
+    ensures says { Runs (within (C.reach calls.now) setting.now destination_of destination.now) run.old result run.new }
     ensures turns { run.new.turns ≤ run.old.turns }
 {
     match destination {
@@ -184,13 +163,11 @@ fn raw_destination<C: Calls>(
     address: &TypedExpr,
     run: &mut Run,
 ) -> Result<Spot, Halt>
-    ensures says { Says (raw_destination_of (setting_of setting.now) buffer (seen (setting_of setting.now) (callees_in (C.reach calls.now) setting.now) address.now) run.old.state run.old.turns) result run.new.state run.new.turns }
+    ensures says { Runs (raw_destination_of (setting_of setting.now) buffer (within (C.reach calls.now) setting.now seen address.now)) run.old result run.new }
     ensures turns { run.new.turns ≤ run.old.turns }
 {
-    match word(setting, calls, address, run) {
-        Ok(at) => Ok(raw_place(buffer, at)),
-        Err(halt) => Err(halt),
-    }
+    let at = word(setting, calls, address, run)?;
+    Ok(raw_place(buffer, at))
 }
 
 /// The word of an expression, 0 where there is none.
@@ -200,7 +177,7 @@ pub fn optional_word<C: Calls>(
     e: &Option<TypedExpr>,
     run: &mut Run,
 ) -> Result<Word, Halt>
-    ensures says { Says (maybe_word (setting_of setting.now) (callees_in (C.reach calls.now) setting.now) e.now run.old.state run.old.turns) result run.new.state run.new.turns }
+    ensures says { Runs (within (C.reach calls.now) setting.now maybe_word e.now) run.old result run.new }
     ensures turns { run.new.turns ≤ run.old.turns }
 {
     match e {
@@ -215,7 +192,7 @@ fn optional_spot<C: Calls>(
     e: &Option<TypedExpr>,
     run: &mut Run,
 ) -> Result<Spot, Halt>
-    ensures says { Says (maybe_spot (setting_of setting.now) (callees_in (C.reach calls.now) setting.now) e.now run.old.state run.old.turns) result run.new.state run.new.turns }
+    ensures says { Runs (within (C.reach calls.now) setting.now maybe_spot e.now) run.old result run.new }
     ensures turns { run.new.turns ≤ run.old.turns }
 {
     match e {
@@ -240,25 +217,13 @@ fn interlock<C: Calls>(
     i: &Interlocked,
     run: &mut Run,
 ) -> Result<(), Halt>
-    ensures says { Says (interlocked (setting_of setting.now) (callees_in (C.reach calls.now) setting.now) i.now run.old.state run.old.turns) result run.new.state run.new.turns }
+    ensures says { Runs (within (C.reach calls.now) setting.now interlocked i.now) run.old result run.new }
     ensures turns { run.new.turns ≤ run.old.turns }
 {
-    let at = match destination(setting, calls, &i.destination, run) {
-        Ok(at) => at,
-        Err(halt) => return Err(halt),
-    };
-    let compare = match optional_word(setting, calls, &i.compare, run) {
-        Ok(compare) => compare,
-        Err(halt) => return Err(halt),
-    };
-    let value = match word(setting, calls, &i.value, run) {
-        Ok(value) => value,
-        Err(halt) => return Err(halt),
-    };
-    let back = match optional_spot(setting, calls, &i.old, run) {
-        Ok(back) => back,
-        Err(halt) => return Err(halt),
-    };
+    let at = destination(setting, calls, &i.destination, run)?;
+    let compare = optional_word(setting, calls, &i.compare, run)?;
+    let value = word(setting, calls, &i.value, run)?;
+    let back = optional_spot(setting, calls, &i.old, run)?;
     let old = one_word(setting, &at, &run.state)?;
     let left = exchange(i.form, kind_of_words(i.signed), old, compare, value);
     write(setting.alloc, &at, &[left], &mut run.state);
@@ -273,21 +238,21 @@ pub fn step<C: Calls>(
     step: &TypedStep,
     run: &mut Run,
 ) -> Result<(), Halt>
-    ensures says { Says (step_does (setting_of setting.now) (callees_in (C.reach calls.now) setting.now) step.now run.old.state run.old.turns) result run.new.state run.new.turns }
+    ensures says { Runs (within (C.reach calls.now) setting.now step_does step.now) run.old result run.new }
     ensures turns { run.new.turns ≤ run.old.turns }
 {
     match step {
-        TypedStep::Evaluate { value: e } => match value(setting, calls, e, run) {
-            Ok(_) => Ok(()),
-            Err(halt) => Err(halt),
-        },
+        TypedStep::Evaluate { value: e } => {
+            let _words = value(setting, calls, e, run)?;
+            Ok(())
+        }
         TypedStep::Call {
             function,
             arguments,
-        } => match call(setting, calls, *function, arguments, run) {
-            Ok(_) => Ok(()),
-            Err(halt) => Err(halt),
-        },
+        } => {
+            let _words = call(setting, calls, *function, arguments, run)?;
+            Ok(())
+        }
         TypedStep::Assign { target, value } => assign(setting, calls, target, value, run),
         TypedStep::Update {
             target,
@@ -312,14 +277,11 @@ pub fn steps<C: Calls>(
     list: &Items<TypedStep>,
     run: &mut Run,
 ) -> Result<(), Halt>
-    ensures says { Says (steps_do (setting_of setting.now) (callees_in (C.reach calls.now) setting.now) list.now run.old.state run.old.turns) result run.new.state run.new.turns }
+    ensures says { Runs (within (C.reach calls.now) setting.now steps_do list.now) run.old result run.new }
     ensures turns { run.new.turns ≤ run.old.turns }
 {
     for s in list.as_slice() {
-        match step(setting, calls, s, run) {
-            Ok(()) => (),
-            Err(halt) => return Err(halt),
-        }
+        step(setting, calls, s, run)?;
     }
     Ok(())
 }
@@ -332,7 +294,7 @@ fn start_words<C: Calls>(
     e: &Option<TypedExpr>,
     run: &mut Run,
 ) -> Result<Words, Halt>
-    ensures says { Says (start_value (setting_of setting.now) (callees_in (C.reach calls.now) setting.now) t e.now run.old.state run.old.turns) result run.new.state run.new.turns }
+    ensures says { Runs (within (C.reach calls.now) setting.now start_value t e.now) run.old result run.new }
     ensures turns { run.new.turns ≤ run.old.turns }
 {
     match e {
@@ -347,13 +309,10 @@ fn declare<C: Calls>(
     d: &TypedDeclarator,
     run: &mut Run,
 ) -> Result<(), Halt>
-    ensures says { Says (declared_as (setting_of setting.now) (callees_in (C.reach calls.now) setting.now) d.now run.old.state run.old.turns) result run.new.state run.new.turns }
+    ensures says { Runs (within (C.reach calls.now) setting.now declared_as d.now) run.old result run.new }
     ensures turns { run.new.turns ≤ run.old.turns }
 {
-    let words = match start_words(setting, calls, d.of, &d.value, run) {
-        Ok(words) => words,
-        Err(halt) => return Err(halt),
-    };
+    let words = start_words(setting, calls, d.of, &d.value, run)?;
     let at = Spot::At {
         store: Store::Local { local: d.local },
         from: 0,
@@ -369,14 +328,11 @@ pub fn declare_all<C: Calls>(
     list: &Items<TypedDeclarator>,
     run: &mut Run,
 ) -> Result<(), Halt>
-    ensures says { Says (all_declared (setting_of setting.now) (callees_in (C.reach calls.now) setting.now) list.now run.old.state run.old.turns) result run.new.state run.new.turns }
+    ensures says { Runs (within (C.reach calls.now) setting.now all_declared list.now) run.old result run.new }
     ensures turns { run.new.turns ≤ run.old.turns }
 {
     for d in list.as_slice() {
-        match declare(setting, calls, d, run) {
-            Ok(()) => (),
-            Err(halt) => return Err(halt),
-        }
+        declare(setting, calls, d, run)?;
     }
     Ok(())
 }
@@ -388,7 +344,7 @@ pub fn start<C: Calls>(
     start: &Option<TypedStart>,
     run: &mut Run,
 ) -> Result<(), Halt>
-    ensures says { Says (started (setting_of setting.now) (callees_in (C.reach calls.now) setting.now) start.now run.old.state run.old.turns) result run.new.state run.new.turns }
+    ensures says { Runs (within (C.reach calls.now) setting.now started start.now) run.old result run.new }
     ensures turns { run.new.turns ≤ run.old.turns }
 {
     match start {

@@ -5,16 +5,16 @@ ghost use Rattle.wg_semantics.specs.StepMeaning.{steps_do, started};
 ghost use Rattle.wg_semantics.specs.StmtMeaning.{loop as looped, test_of, of_group, is_group_handle, asks, completes, maybe_else, returned, does, body_does};
 ghost use Rattle.wg_meaning.specs.Flows.{begun, entered, goes_on as flow_goes_on, loop_left, next_result};
 ghost use Rattle.wg_values.specs.Pieces.{setting_of};
-ghost use Rattle.wg_meaning.specs.Says.{Says, callees_in};
+ghost use Rattle.wg_evaluation.specs.Says.{Runs, within};
 
-use crate::calls::{Calls, Run};
-use crate::expr::{value, word};
-use crate::halt::Halt;
 use crate::step::{declare_all, optional_word, start as begin, step, steps};
 use sqlite_items::{Boxed, Items};
+use wg_evaluation::{Calls, Run, value, word};
+use wg_machine::Halt;
 use wg_semantics::Flow;
+use wg_state::Request;
 use wg_typed::{TypedExpr, TypedStart, TypedStep, TypedStmt};
-use wg_values::{Request, Setting, ask, close, grant};
+use wg_values::{Setting, ask, close, grant};
 use wg_words::{Word, Words};
 
 fn goes_on(end: &Flow) -> bool
@@ -40,10 +40,8 @@ fn left(end: Flow) -> Option<Flow>
 fn next(done: Result<(), Halt>) -> Result<Flow, Halt>
     ensures { result ≡ next_result done }
 {
-    match done {
-        Ok(()) => Ok(Flow::Next),
-        Err(halt) => Err(halt),
-    }
+    done?;
+    Ok(Flow::Next)
 }
 
 /// A request or an increment: the element first, then the number.
@@ -56,17 +54,11 @@ fn request<C: Calls>(
     amount: &TypedExpr,
     run: &mut Run,
 ) -> Result<(), Halt>
-    ensures says { Says (asks (setting_of setting.now) (callees_in (C.reach calls.now) setting.now) handle output element.now amount.now run.old.state run.old.turns) result run.new.state run.new.turns }
+    ensures says { Runs (within (C.reach calls.now) setting.now asks handle output element.now amount.now) run.old result run.new }
     ensures turns { run.new.turns ≤ run.old.turns }
 {
-    let at = match optional_word(setting, calls, element, run) {
-        Ok(at) => at,
-        Err(halt) => return Err(halt),
-    };
-    let count = match word(setting, calls, amount, run) {
-        Ok(count) => count,
-        Err(halt) => return Err(halt),
-    };
+    let at = optional_word(setting, calls, element, run)?;
+    let count = word(setting, calls, amount, run)?;
     let request = Request {
         handle,
         lane: setting.lane,
@@ -94,7 +86,7 @@ fn group_request<C: Calls>(
     amount: &TypedExpr,
     run: &mut Run,
 ) -> Result<(), Halt>
-    ensures says { Says (of_group (setting_of setting.now) group (asks (setting_of setting.now) (callees_in (C.reach calls.now) setting.now) handle output element.now amount.now) run.old.state run.old.turns) result run.new.state run.new.turns }
+    ensures says { Runs (of_group (setting_of setting.now) group (within (C.reach calls.now) setting.now asks handle output element.now amount.now)) run.old result run.new }
     ensures turns { run.new.turns ≤ run.old.turns }
 {
     if group && setting.lane != 0 {
@@ -130,17 +122,17 @@ fn give_back<C: Calls>(
     e: &Option<TypedExpr>,
     run: &mut Run,
 ) -> Result<Flow, Halt>
-    ensures says { Says (returned (setting_of setting.now) (callees_in (C.reach calls.now) setting.now) e.now run.old.state run.old.turns) result run.new.state run.new.turns }
+    ensures says { Runs (within (C.reach calls.now) setting.now returned e.now) run.old result run.new }
     ensures turns { run.new.turns ≤ run.old.turns }
 {
     match e {
         None => Ok(Flow::Returned {
             words: Words::new(setting.alloc),
         }),
-        Some(e) => match value(setting, calls, e, run) {
-            Ok(words) => Ok(Flow::Returned { words }),
-            Err(halt) => Err(halt),
-        },
+        Some(e) => {
+            let words = value(setting, calls, e, run)?;
+            Ok(Flow::Returned { words })
+        }
     }
 }
 
@@ -151,7 +143,7 @@ fn test<C: Calls>(
     e: &Option<TypedExpr>,
     run: &mut Run,
 ) -> Result<Word, Halt>
-    ensures says { Says (test_of (setting_of setting.now) (callees_in (C.reach calls.now) setting.now) e.now run.old.state run.old.turns) result run.new.state run.new.turns }
+    ensures says { Runs (within (C.reach calls.now) setting.now test_of e.now) run.old result run.new }
     ensures turns { run.new.turns ≤ run.old.turns }
 {
     match e {
@@ -168,14 +160,11 @@ pub fn block<C: Calls>(
     body: &[TypedStmt],
     run: &mut Run,
 ) -> Result<Flow, Halt>
-    ensures says { Says (body_does (setting_of setting.now) (callees_in (C.reach calls.now) setting.now) body.now run.old.state run.old.turns) result run.new.state run.new.turns }
+    ensures says { Runs (within (C.reach calls.now) setting.now body_does body.now) run.old result run.new }
     ensures turns { run.new.turns ≤ run.old.turns }
 {
     for s in body {
-        let end = match stmt(setting, calls, s, run) {
-            Ok(end) => end,
-            Err(halt) => return Err(halt),
-        };
+        let end = stmt(setting, calls, s, run)?;
         if !goes_on(&end) {
             return Ok(end);
         }
@@ -191,7 +180,7 @@ fn enter<C: Calls>(
     body: &Boxed<TypedStmt>,
     run: &mut Run,
 ) -> Result<Flow, Halt>
-    ensures says { Says (entered (does (setting_of setting.now) (callees_in (C.reach calls.now) setting.now) body.now) run.old.state run.old.turns) result run.new.state run.new.turns }
+    ensures says { Runs (entered (within (C.reach calls.now) setting.now does body.now)) run.old result run.new }
     ensures turns { run.new.turns ≤ run.old.turns }
     ensures takes { OnOk result (run.new.turns < run.old.turns) }
 {
@@ -210,21 +199,15 @@ fn while_loop<C: Calls>(
     e: &TypedExpr,
     run: &mut Run,
 ) -> Result<Flow, Halt>
-    ensures says { Says (looped (word_of (setting_of setting.now) (seen (setting_of setting.now) (callees_in (C.reach calls.now) setting.now) e.now)) (does (setting_of setting.now) (callees_in (C.reach calls.now) setting.now) body.now) (pure tt) run.old.state run.old.turns) result run.new.state run.new.turns }
+    ensures says { Runs (looped (word_of (setting_of setting.now) (within (C.reach calls.now) setting.now seen e.now)) (within (C.reach calls.now) setting.now does body.now) (pure tt)) run.old result run.new }
     ensures turns { run.new.turns ≤ run.old.turns }
 {
     'turns: loop {
-        let go = match word(setting, calls, e, run) {
-            Ok(go) => go,
-            Err(halt) => return Err(halt),
-        };
+        let go = word(setting, calls, e, run)?;
         if go == 0 {
             return Ok(Flow::Next);
         }
-        let end = match enter(setting, calls, body, run) {
-            Ok(end) => end,
-            Err(halt) => return Err(halt),
-        };
+        let end = enter(setting, calls, body, run)?;
         match left(end) {
             Some(end) => return Ok(end),
             None => (),
@@ -241,29 +224,20 @@ fn for_loop<C: Calls>(
     list: &Items<TypedStep>,
     run: &mut Run,
 ) -> Result<Flow, Halt>
-    ensures says { Says (looped (test_of (setting_of setting.now) (callees_in (C.reach calls.now) setting.now) e.now) (does (setting_of setting.now) (callees_in (C.reach calls.now) setting.now) body.now) (steps_do (setting_of setting.now) (callees_in (C.reach calls.now) setting.now) list.now) run.old.state run.old.turns) result run.new.state run.new.turns }
+    ensures says { Runs (looped (within (C.reach calls.now) setting.now test_of e.now) (within (C.reach calls.now) setting.now does body.now) (within (C.reach calls.now) setting.now steps_do list.now)) run.old result run.new }
     ensures turns { run.new.turns ≤ run.old.turns }
 {
     'turns: loop {
-        let go = match test(setting, calls, e, run) {
-            Ok(go) => go,
-            Err(halt) => return Err(halt),
-        };
+        let go = test(setting, calls, e, run)?;
         if go == 0 {
             return Ok(Flow::Next);
         }
-        let end = match enter(setting, calls, body, run) {
-            Ok(end) => end,
-            Err(halt) => return Err(halt),
-        };
+        let end = enter(setting, calls, body, run)?;
         match left(end) {
             Some(end) => return Ok(end),
             None => (),
         }
-        match steps(setting, calls, list, run) {
-            Ok(()) => (),
-            Err(halt) => return Err(halt),
-        }
+        steps(setting, calls, list, run)?;
     }
 }
 
@@ -274,7 +248,7 @@ fn other_branch<C: Calls>(
     other: &Option<Boxed<TypedStmt>>,
     run: &mut Run,
 ) -> Result<Flow, Halt>
-    ensures says { Says (maybe_else (option_map (does (setting_of setting.now) (callees_in (C.reach calls.now) setting.now)) other.now) run.old.state run.old.turns) result run.new.state run.new.turns }
+    ensures says { Runs (maybe_else (option_map (within (C.reach calls.now) setting.now does) other.now)) run.old result run.new }
     ensures turns { run.new.turns ≤ run.old.turns }
 {
     match other {
@@ -294,13 +268,10 @@ fn for_statement<C: Calls>(
     body: &Boxed<TypedStmt>,
     run: &mut Run,
 ) -> Result<Flow, Halt>
-    ensures says { Says (begun (started (setting_of setting.now) (callees_in (C.reach calls.now) setting.now) start.now) (looped (test_of (setting_of setting.now) (callees_in (C.reach calls.now) setting.now) test.now) (does (setting_of setting.now) (callees_in (C.reach calls.now) setting.now) body.now) (steps_do (setting_of setting.now) (callees_in (C.reach calls.now) setting.now) steps.now)) run.old.state run.old.turns) result run.new.state run.new.turns }
+    ensures says { Runs (begun (within (C.reach calls.now) setting.now started start.now) (looped (within (C.reach calls.now) setting.now test_of test.now) (within (C.reach calls.now) setting.now does body.now) (within (C.reach calls.now) setting.now steps_do steps.now))) run.old result run.new }
     ensures turns { run.new.turns ≤ run.old.turns }
 {
-    match begin(setting, calls, start, run) {
-        Ok(()) => (),
-        Err(halt) => return Err(halt),
-    }
+    begin(setting, calls, start, run)?;
     for_loop(setting, calls, body, test, steps, run)
 }
 
@@ -312,7 +283,7 @@ pub fn stmt<C: Calls>(
     s: &TypedStmt,
     run: &mut Run,
 ) -> Result<Flow, Halt>
-    ensures says { Says (does (setting_of setting.now) (callees_in (C.reach calls.now) setting.now) s.now run.old.state run.old.turns) result run.new.state run.new.turns }
+    ensures says { Runs (within (C.reach calls.now) setting.now does s.now) run.old result run.new }
     ensures turns { run.new.turns ≤ run.old.turns }
 {
     match s {
@@ -355,10 +326,7 @@ pub fn stmt<C: Calls>(
             other,
             ..
         } => {
-            let c = match word(setting, calls, test, run) {
-                Ok(c) => c,
-                Err(halt) => return Err(halt),
-            };
+            let c = word(setting, calls, test, run)?;
             if c != 0 {
                 stmt(setting, calls, then.get(), run)
             } else {

@@ -149,18 +149,18 @@ entry_runs text f threads unit launch =
 
 -- a body of an unknown function does nothing
 abbrev pub function_made : Typed → Option TypedFunction → List ℕ → Node → Meaning
-function_made text None threads unit launch buffers turns = does_nothing launch buffers turns
+function_made text None threads unit launch buffers turns = does_nothing unit.shared launch buffers turns
 function_made text (Some f) threads unit launch buffers turns =
     outcome_after unit turns (entry_runs text f threads unit launch (world_before (first_shared text.structs text.shared) unit launch buffers) turns)
 
 -- nor does a node without a body
 abbrev pub body_made : Typed → Option Body → Node → Meaning
-body_made text None unit = does_nothing
+body_made text None unit = does_nothing unit.shared
 body_made text (Some body) unit = function_made text (slice_get text.functions body.function) body.threads unit
 
 -- nor does an unknown unit
 abbrev pub unit_made : Typed → List Body → Option Node → Meaning
-unit_made text bodies None launch buffers turns = does_nothing launch buffers turns
+unit_made text bodies None launch buffers turns = does_nothing false launch buffers turns
 unit_made text bodies (Some unit) launch buffers turns = body_made text (slice_get bodies unit.node) unit launch buffers turns
 
 -- What a launch on a shape does to the buffers within so many turns, where its nodes have these bodies by their numbers; none where it is

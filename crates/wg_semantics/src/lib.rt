@@ -1,6 +1,8 @@
 //! What a typed text means: its expressions, statements and functions on a lane, and its launches.
 #![tactic(auto)]
 
+mod law;
 mod state;
 
+pub use law::callees_are_functions;
 pub use state::{Body, Flow, Frame, Lane, Passed, Spot, State, Store};

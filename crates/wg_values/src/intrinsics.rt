@@ -30,50 +30,53 @@ fn magnitude(s: Scalar, a: Word) -> Word
     if less(s, a, 0) { sub(0, a) } else { a }
 }
 
-/// What a call makes of one component.
-fn of_one(call: Intrinsic, s: Scalar, a: Word) -> Word
+/// What is made of one component.
+#[derive(Clone, Copy)]
+pub enum OfOne {
+    Magnitude,
+    CountOfBits,
+    HighestBit,
+    LowestBit,
+    Reversed,
+}
+
+/// What is made of two components.
+#[derive(Clone, Copy)]
+pub enum OfTwo {
+    Lesser,
+    Greater,
+    Product,
+    Sum,
+    Both,
+    Either,
+}
+
+fn of_one(call: OfOne, s: Scalar, a: Word) -> Word
     ensures { result ≡ one_word call s a }
 {
     match call {
-        Intrinsic::Abs => magnitude(s, a),
-        Intrinsic::CountBits => count_bits(a),
-        Intrinsic::FirstBitHigh => first_high(a),
-        Intrinsic::FirstBitLow => first_low(a),
-        Intrinsic::ReverseBits => reverse(a),
-        Intrinsic::Min
-        | Intrinsic::Max
-        | Intrinsic::Clamp
-        | Intrinsic::MultiplyAdd
-        | Intrinsic::Any
-        | Intrinsic::All
-        | Intrinsic::Select
-        | Intrinsic::And
-        | Intrinsic::Or => a,
+        OfOne::Magnitude => magnitude(s, a),
+        OfOne::CountOfBits => count_bits(a),
+        OfOne::HighestBit => first_high(a),
+        OfOne::LowestBit => first_low(a),
+        OfOne::Reversed => reverse(a),
     }
 }
 
-/// What a call makes of two components; `mad` begins with their product.
-fn of_two(call: Intrinsic, s: Scalar, a: Word, b: Word) -> Word
+fn of_two(call: OfTwo, s: Scalar, a: Word, b: Word) -> Word
     ensures { result ≡ two_words call s a b }
 {
     match call {
-        Intrinsic::Min => lesser(s, a, b),
-        Intrinsic::Max | Intrinsic::Clamp => greater(s, a, b),
-        Intrinsic::MultiplyAdd => mul(a, b),
-        Intrinsic::And => truth_word(a != 0 && b != 0),
-        Intrinsic::Or => truth_word(a != 0 || b != 0),
-        Intrinsic::Abs
-        | Intrinsic::CountBits
-        | Intrinsic::FirstBitHigh
-        | Intrinsic::FirstBitLow
-        | Intrinsic::ReverseBits
-        | Intrinsic::Any
-        | Intrinsic::All
-        | Intrinsic::Select => add(a, b),
+        OfTwo::Lesser => lesser(s, a, b),
+        OfTwo::Greater => greater(s, a, b),
+        OfTwo::Product => mul(a, b),
+        OfTwo::Sum => add(a, b),
+        OfTwo::Both => truth_word(a != 0 && b != 0),
+        OfTwo::Either => truth_word(a != 0 || b != 0),
     }
 }
 
-fn each_word(alloc: Global, call: Intrinsic, s: Scalar, a: &[Word]) -> Result<Words, AllocError>
+fn each_word(alloc: Global, call: OfOne, s: Scalar, a: &[Word]) -> Result<Words, AllocError>
     ensures { IfOk result (λ list. list ≡ map (one_word call s) a.now) }
 {
     let mut list = Words::new(alloc);
@@ -86,7 +89,7 @@ fn each_word(alloc: Global, call: Intrinsic, s: Scalar, a: &[Word]) -> Result<Wo
 #[tactic(auto, using(crate::proofs::Lists::pairwise_next, crate::proofs::Lists::pairwise_ends))]
 fn each_pair(
     alloc: Global,
-    call: Intrinsic,
+    call: OfTwo,
     s: Scalar,
     a: &[Word],
     b: &[Word],
@@ -163,22 +166,23 @@ pub fn intrinsic(
     let b = given(arguments, 1);
     let c = given(arguments, 2);
     match call {
-        Intrinsic::Min | Intrinsic::Max | Intrinsic::And | Intrinsic::Or => each_pair(
-            alloc, call, s, a, b,
-        ),
+        Intrinsic::Min => each_pair(alloc, OfTwo::Lesser, s, a, b),
+        Intrinsic::Max => each_pair(alloc, OfTwo::Greater, s, a, b),
+        Intrinsic::And => each_pair(alloc, OfTwo::Both, s, a, b),
+        Intrinsic::Or => each_pair(alloc, OfTwo::Either, s, a, b),
         Intrinsic::Clamp => {
-            let raised = each_pair(alloc, Intrinsic::Max, s, a, b)?;
-            each_pair(alloc, Intrinsic::Min, s, raised.as_slice(), c)
+            let raised = each_pair(alloc, OfTwo::Greater, s, a, b)?;
+            each_pair(alloc, OfTwo::Lesser, s, raised.as_slice(), c)
         }
         Intrinsic::MultiplyAdd => {
-            let products = each_pair(alloc, Intrinsic::MultiplyAdd, s, a, b)?;
-            each_pair(alloc, Intrinsic::Any, s, products.as_slice(), c)
+            let products = each_pair(alloc, OfTwo::Product, s, a, b)?;
+            each_pair(alloc, OfTwo::Sum, s, products.as_slice(), c)
         }
-        Intrinsic::Abs
-        | Intrinsic::CountBits
-        | Intrinsic::FirstBitHigh
-        | Intrinsic::FirstBitLow
-        | Intrinsic::ReverseBits => each_word(alloc, call, s, a),
+        Intrinsic::Abs => each_word(alloc, OfOne::Magnitude, s, a),
+        Intrinsic::CountBits => each_word(alloc, OfOne::CountOfBits, s, a),
+        Intrinsic::FirstBitHigh => each_word(alloc, OfOne::HighestBit, s, a),
+        Intrinsic::FirstBitLow => each_word(alloc, OfOne::LowestBit, s, a),
+        Intrinsic::ReverseBits => each_word(alloc, OfOne::Reversed, s, a),
         Intrinsic::Any => Words::from_slice(alloc, &[truth_word(any_true(a))]),
         Intrinsic::All => Words::from_slice(alloc, &[truth_word(all_true(a))]),
         Intrinsic::Select => choose(alloc, a, b, c),

@@ -1,17 +1,16 @@
-use crate::operators::combine;
-use crate::requests::{Request, ask};
+use crate::requests::ask;
 use crate::words::word_at;
 use std::alloc::{AllocError, Global};
 use std::test::Fail;
-use wg_state::{Sender, World};
-use wg_tree::{BinaryOperator, Scalar};
+use wg_machine::{Output, Targets};
+use wg_state::{Request, World};
 use wg_words::{Items, WordLists, Words};
 
-fn sender(alloc: Global) -> Result<Sender, AllocError> {
-    Ok(Sender {
+fn output(alloc: Global) -> Result<Output, AllocError> {
+    Ok(Output {
         budget: 0,
         words: 1,
-        targets: Items::from_slice(alloc, &[Some(1), None])?,
+        elements: Targets::from_slice(alloc, &[Some(1), None])?,
     })
 }
 
@@ -37,49 +36,9 @@ fn request(element: u32, amount: u32) -> Request {
 }
 
 #[test]
-fn operators_wrap_and_have_their_words_at_the_edges(rt: HostRuntime) -> Result<(), Fail> {
-    let rows = [
-        (BinaryOperator::Add, Scalar::Uint, 0xffff_ffff, 2, 1),
-        (BinaryOperator::Subtract, Scalar::Int, 0, 1, 0xffff_ffff),
-        (BinaryOperator::Multiply, Scalar::Uint, 0x8000_0000, 2, 0),
-        (BinaryOperator::ShiftLeft, Scalar::Uint, 1, 33, 2),
-        (BinaryOperator::ShiftRight, Scalar::Uint, 0x8000_0000, 31, 1),
-        (
-            BinaryOperator::ShiftRight,
-            Scalar::Int,
-            0x8000_0000,
-            31,
-            0xffff_ffff,
-        ),
-        (BinaryOperator::Divide, Scalar::Uint, 7, 0, 0xffff_ffff),
-        (BinaryOperator::Remainder, Scalar::Int, 7, 0, 0xffff_ffff),
-        (
-            BinaryOperator::Divide,
-            Scalar::Int,
-            0x8000_0000,
-            0xffff_ffff,
-            0x8000_0000,
-        ),
-        (
-            BinaryOperator::Remainder,
-            Scalar::Int,
-            0x8000_0000,
-            0xffff_ffff,
-            0,
-        ),
-        (BinaryOperator::Less, Scalar::Int, 0xffff_ffff, 0, 1),
-        (BinaryOperator::Less, Scalar::Uint, 0xffff_ffff, 0, 0),
-    ];
-    for (operator, s, a, b, expected) in rows {
-        assert_eq!(rt; combine(operator, s, a, b), expected);
-    }
-    Ok(())
-}
-
-#[test]
 fn a_request_past_its_budget_is_denied_whole(rt: HostRuntime) -> Result<(), Fail> {
     let alloc = rt.alloc();
-    let outputs = [sender(alloc)?];
+    let outputs = [output(alloc)?];
     let mut world = world(alloc)?;
     // element, number, what is left of the budget then, and the denied requests
     let rows = [

@@ -1,3 +1,5 @@
+pub mod Characters
 pub mod Each
+pub mod Maybe
 pub mod Truth
 pub mod Words

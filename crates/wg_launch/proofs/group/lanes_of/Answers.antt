@@ -6,7 +6,7 @@ use Rattle.wg_launch.proofs.group.lanes_of.Goals as goal
 pub loop-lane-preserved : goal.loop-lane-preserved
 loop-lane-preserved c =
     let entry = c.args.entry.now in
-    lanes_more (first_frame entry.text.now.structs entry.function.now c.args.group entry.unit.now.threads) c.loop-lane.lane c.args.count c.loop-lane.list _ c.in_ok-frame.frame c.loop-lane-test.true
-    (c.in_ok-frame.ensures ∙ ap (λ structs. first_frame structs entry.function.now c.args.group entry.unit.now.threads c.loop-lane.lane) entry.same)
+    lanes_more (first_frame entry.text.now.structs entry.function.now c.args.group entry.threads) c.loop-lane.lane c.args.count c.loop-lane.list _ c.in_ok-frame.frame c.loop-lane-test.true
+    (c.in_ok-frame.ensures ∙ ap (λ structs. first_frame structs entry.function.now c.args.group entry.threads c.loop-lane.lane) entry.same)
     c.in_ok-push.ensures.ok
     ∙ c.loop-lane.invariant

@@ -1,12 +1,12 @@
 use Rattle.std.proofs.Common.{ap, sym, ◌∙◌, arith}
-use Rattle.wg_semantics.specs.LaunchMeaning.{entry_bodies, phases_run}
+use Rattle.wg_semantics.specs.LaunchMeaning.{entry_does, phases_run}
 use Rattle.wg_launch.proofs.LaneRuns.{phases_on, phases_plain}
 use Rattle.wg_launch.proofs.lanes.run_phases.Goals as goal
 use Rattle.wg_launch.proofs.lanes.run_phases.Goals.{then-is_phase+in-Ok, else-is_phase}
 
 pub loop-at-preserved : goal.loop-at-preserved
 loop-at-preserved c =
-    let bodies = entry_bodies c.args.entry.now.text.now c.args.entry.now.function.now c.args.entry.now.unit.now in
+    let bodies = entry_does c.args.entry.now.text.now c.args.entry.now.function.now c.args.entry.now.unit.now in
     let body = c.as_slice-statements.result.now in
     elim c.if-is_phase.branch [
       | then-is_phase+in-Ok w ↦

@@ -1,10 +1,10 @@
 use Rattle.std.proofs.Common.{◌≡◌, ◌≤◌, ◌-◌, take, drop}
-use Rattle.wg_semantics.specs.LaunchMeaning.{entry_bodies, phases_run, phases_after, phases_of}
+use Rattle.wg_semantics.specs.LaunchMeaning.{entry_does, phases_run, phases_after, phases_of}
 use Rattle.wg_launch.proofs.lanes.run_phases.Given as goal
 
 abbrev pub invariant-loop-at : goal.invariant-loop-at
 invariant-loop-at l =
-    let bodies = entry_bodies l.entry.text.now l.entry.function.now l.entry.unit.now in
+    let bodies = entry_does l.entry.text.now l.entry.function.now l.entry.unit.now in
     record {
       order : l.from ≤ l.at;
       done :

@@ -2,7 +2,7 @@ use Rattle.std.proofs.Common.{◌≡◌, ◌≤◌, map, drop}
 use Rattle.wg_state.specs.Turns.{all}
 use Rattle.wg_semantics.specs.StepMeaning.{declared_as}
 use Rattle.wg_values.specs.Pieces.{setting_of}
-use Rattle.wg_meaning.specs.Says.{callees_in}
+use Rattle.wg_evaluation.specs.Says.{callees_in}
 use Rattle.wg_meaning.proofs.step.declare_all.Given as goal
 
 abbrev pub invariant-loop-d : goal.invariant-loop-d

@@ -1,7 +1,7 @@
 use Rattle.std.proofs.Common.{sym, subst}
 use Rattle.wg_semantics.specs.StepMeaning.{destination_of}
 use Rattle.wg_values.specs.Pieces.{setting_of}
-use Rattle.wg_meaning.specs.Says.{Says, callees_in}
+use Rattle.wg_evaluation.specs.Says.{Says, callees_in}
 use Rattle.wg_meaning.proofs.step.destination.Goals as goal
 
 pub returns-in-Raw-clause-says : goal.returns-in-Raw-clause-says

@@ -1,7 +1,7 @@
 use Rattle.std.proofs.Common.{sym, subst}
 use Rattle.wg_semantics.specs.StepMeaning.{step_does}
 use Rattle.wg_values.specs.Pieces.{setting_of}
-use Rattle.wg_meaning.specs.Says.{Says, callees_in}
+use Rattle.wg_evaluation.specs.Says.{Says, callees_in}
 use Rattle.wg_meaning.proofs.step.step.Goals as goal
 
 pub returns-in-Store-clause-says : goal.returns-in-Store-clause-says

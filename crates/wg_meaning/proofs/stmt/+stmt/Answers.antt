@@ -1,6 +1,6 @@
 use Rattle.std.proofs.Common.{arith, sym, subst, refl, ◌∙◌}
 use Rattle.wg_values.specs.Pieces.{setting_of}
-use Rattle.wg_meaning.specs.Says.{Says, callees_in}
+use Rattle.wg_evaluation.specs.Says.{Says, callees_in}
 use Rattle.wg_meaning.proofs.Branches.{if_stops, if_then, if_else, while_runs, for_runs}
 use Rattle.wg_meaning.proofs.Loops.{body_leaves, go_round}
 use Rattle.wg_meaning.proofs.stmt.+stmt.Goals as goal

@@ -4,7 +4,7 @@ use Rattle.wg_semantics.specs.ExprMeaning.{seen, word_of}
 use Rattle.wg_semantics.specs.StepMeaning.{steps_do}
 use Rattle.wg_semantics.specs.StmtMeaning.{block, does, test_of}
 use Rattle.wg_values.specs.Pieces.{setting_of}
-use Rattle.wg_meaning.specs.Says.{callees_in}
+use Rattle.wg_evaluation.specs.Says.{callees_in}
 use Rattle.wg_meaning.proofs.Loops.{LoopGoesOn}
 use Rattle.wg_meaning.proofs.stmt.+stmt.Given as goal
 

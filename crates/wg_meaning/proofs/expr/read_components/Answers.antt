@@ -1,4 +1,0 @@
-use Rattle.wg_meaning.proofs.expr.read_components.Goals as goal
-
-pub returns : goal.returns
-returns c = c.in_ok-at.ensures c.args.run.now.turns

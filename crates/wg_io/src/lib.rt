@@ -14,7 +14,7 @@ pub use mem::{MemFiles, MemSink};
 pub use named::NamedFiles;
 pub use no_fault::{NoFaultFiles, NoFaultSink};
 pub use real::{RealFiles, RealSink};
-pub use sink::{Failed, Sink};
+pub use sink::{Failed, Sink, write_all};
 
 #[cfg(test)]
 mod tests;

@@ -1,5 +1,5 @@
-ghost use Rattle.std.specs.Prelude.{◌≡◌, ◌≤◌, ◌<◌, List, ℕ, Option, length, take, IfOk, OnErr};
-ghost use Rattle.wg_io.specs.Causes.{Rose, Appends};
+ghost use Rattle.std.specs.Prelude.{◌≡◌, ◌≤◌, ◌<◌, List, ℕ, Option, length, take, IfOk, OnOk, OnErr};
+ghost use Rattle.wg_io.specs.Causes.{RoseOnce, Appends, AppendsFront};
 
 /// A write that failed.
 #[derive(Clone, Copy, Debug, PartialEq, Eq)]
@@ -19,6 +19,22 @@ pub trait Sink {
         ensures some { IfOk result (λ n. 0 < length bytes.now → 0 < n) }
         ensures appends { IfOk result (λ n. Appends (written self.old) (written self.new) (take n bytes.now)) }
         ensures nothing { OnErr result (written self.new ≡ written self.old) }
-        ensures failed { OnErr result (Rose (faults self.old) (faults self.new)) }
+        ensures same { OnOk result (faults self.new ≡ faults self.old) }
+        ensures failed { OnErr result (RoseOnce (faults self.old) (faults self.new)) }
         ensures no_fault_is_lost { faults self.old ≤ faults self.new };
+}
+
+/// Writes all the bytes: in one piece, and again with the rest where less was taken. It ends with the first failure.
+pub fn write_all<S: Sink>(out: &mut S, bytes: &[u8]) -> Result<(), Failed>
+    ensures whole { OnOk result (Appends (S.written out.old) (S.written out.new) bytes.now) }
+    ensures front { OnErr result (AppendsFront (S.written out.old) (S.written out.new) bytes.now) }
+    ensures same { OnOk result (S.faults out.new ≡ S.faults out.old) }
+    ensures failed { OnErr result (RoseOnce (S.faults out.old) (S.faults out.new)) }
+{
+    let mut rest = bytes;
+    while !rest.is_empty() {
+        let taken = out.write(rest)?;
+        rest = &rest[taken..];
+    }
+    Ok(())
 }

@@ -1,6 +1,6 @@
 use crate::{
     Failed, FileFault, Files, MemFiles, MemSink, NamedFiles, NoFaultFiles, NoFaultSink, RealFiles,
-    RealSink, Sink,
+    RealSink, write_all,
 };
 use std::alloc::Global;
 use std::process::Abort;
@@ -44,34 +44,25 @@ fn check_reads<R: Abort, F: Files>(
 fn named_files_are_read_and_listed_reads_fail(rt: HostRuntime) -> Result<(), Fail> {
     let alloc = rt.alloc();
     let mut files = MemFiles::new(named(alloc)?, vec![in alloc; 3]?);
+    let too_long = Err(FileFault::TooLong { limit: 2 });
     check_reads(
         &rt,
         alloc,
         &mut files,
         &[
             ("g", 3, Ok(b"abc")),
-            ("g", 2, Err(FileFault::TooLong { limit: 2 })),
+            ("g", 2, too_long),
             ("s", 3, Err(FileFault::Failed)),
             ("g", 3, Err(FileFault::Failed)),
             ("empty", 0, Ok(b"")),
         ],
     );
-    Ok(())
-}
-
-#[test]
-fn a_missing_name_gives_no_bytes_where_no_read_fails(rt: HostRuntime) -> Result<(), Fail> {
-    let alloc = rt.alloc();
     let mut files = NoFaultFiles::new(named(alloc)?);
     check_reads(
         &rt,
         alloc,
         &mut files,
-        &[
-            ("g", 3, Ok(b"abc")),
-            ("g", 2, Err(FileFault::TooLong { limit: 2 })),
-            ("s", 0, Ok(b"")),
-        ],
+        &[("g", 3, Ok(b"abc")), ("g", 2, too_long), ("s", 0, Ok(b""))],
     );
     Ok(())
 }
@@ -108,23 +99,15 @@ fn listed_writes_fail_and_append_nothing(rt: HostRuntime) -> Result<(), Fail> {
     let alloc = rt.alloc();
     let mut out = MemSink::new(alloc, vec![in alloc; 1]?);
     for (piece, wanted, written) in [
-        (b"ab".as_slice(), Ok(2), b"ab".as_slice()),
+        (b"ab".as_slice(), Ok(()), b"ab".as_slice()),
         (b"cd".as_slice(), Err(Failed), b"ab".as_slice()),
-        (b"".as_slice(), Ok(0), b"ab".as_slice()),
-        (b"efg".as_slice(), Ok(3), b"abefg".as_slice()),
+        (b"".as_slice(), Ok(()), b"ab".as_slice()),
+        (b"efg".as_slice(), Ok(()), b"abefg".as_slice()),
     ] {
-        assert_eq!(rt; out.write(piece), wanted);
+        assert_eq!(rt; write_all(&mut out, piece), wanted);
         assert_eq!(rt; out.bytes(), written);
     }
+    assert_eq!(rt; write_all(&mut NoFaultSink::new(), b"line\n"), Ok(()));
+    assert_eq!(rt; write_all(&mut RealSink::new(&rt), b"line\n"), Ok(()));
     Ok(())
-}
-
-#[test]
-fn pieces_are_taken_by_the_other_sinks(rt: HostRuntime) {
-    let mut forgetting = NoFaultSink::new();
-    let mut real = RealSink::new(&rt);
-    for (piece, wanted) in [(b"".as_slice(), 0), (b"line\n".as_slice(), 5)] {
-        assert_eq!(rt; forgetting.write(piece), Ok(wanted));
-        assert_eq!(rt; real.write(piece), Ok(wanted));
-    }
 }

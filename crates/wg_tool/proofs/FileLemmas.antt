@@ -10,13 +10,9 @@ use Rattle.wg_tool.specs.declared.answer.Input.{Input}
 use Rattle.wg_tool.specs.declared.answer.Input.TheVariants as input
 use Rattle.wg_tool.specs.declared.limits.TheConstants.{FILE_BYTES}
 use Rattle.wg_tool.specs.declared.pair.Pair.{Pair}
-use Rattle.wg_tool.specs.Headline.{FilesView, IsGraph, Reports, ReportsScript, IsBadScript, RunSays, too_long_line}
+use Rattle.wg_tool.specs.Headline.{FilesView, OfFile, IsGraph, Reports, ReportsScript, IsBadScript, RunSays, too_long_line}
 use Rattle.wg_tool.specs.Script.{IsNoScript}
 use Rattle.wg_tool.specs.Stages.{FaultSays, ScriptSays, FileSays}
-
-pub told_once : (o : Option (List ℕ)) (x : List ℕ) (P : List ℕ → Type 0) → IfSome o (λ (b : List ℕ). x ≡ b) → P x → IfSome o P
-told_once None x P h p = tt
-told_once (Some b) x P h p = subst P h p
 
 pub told_more : (o : Option (List ℕ)) (P Q : List ℕ → Type 0) → ((b : List ℕ) → P b → Q b) → IfSome o P → IfSome o Q
 told_more None P Q f h = tt
@@ -24,8 +20,8 @@ told_more (Some b) P Q f h = f b h
 
 -- a script that was read is the one that is told
 pub file_read : (old new : FilesView) (pairs : List Pair) (name bytes : List ℕ) → IfSome (old.told name) (λ (b : List ℕ). bytes ≡ b) → (a : Answer) (t : List ℕ) → ScriptSays pairs bytes a t → FileSays old new pairs name a t
-file_read old new pairs name bytes same Done t h = told_once (old.told name) bytes (λ (s : List ℕ). ReportsScript pairs s t) same h
-file_read old new pairs name bytes same BadScript t h = (told_once (old.told name) bytes (IsNoScript pairs) same h.0, h.1)
+file_read old new pairs name bytes same Done t h = (bytes, same, h)
+file_read old new pairs name bytes same BadScript t h = ((bytes, same, h.0), h.1)
 file_read old new pairs name bytes same Refused t h = absurd h
 file_read old new pairs name bytes same Usage t h = absurd h
 file_read old new pairs name bytes same (ReadFault i) t h = absurd h
@@ -71,26 +67,24 @@ pub record ReadOnce (old mid : FilesView) : Type 0 where
   pub faults : NoneFalls old.faults mid.faults
   pub taken : NoneFalls old.taken mid.taken
 
+-- what holds of a file after the first read holds of it before
+earlier : (old mid : FilesView) (name : List ℕ) (P Q : List ℕ → Type 0) → ReadOnce old mid → ((b : List ℕ) → P b → Q b) → OfFile mid name P → OfFile old name Q
+earlier old mid name P Q once f h = (h.0, subst (λ (o : Option (List ℕ)). IfSome o (λ (b : List ℕ). h.0 ≡ b)) (once.same name) h.1, f h.0 h.2)
+
 -- after a graph that was read
 pub graph_read : (old mid new : FilesView) (graph script bytes : List ℕ) (pairs : List Pair) → ReadOnce old mid → IfSome (old.told graph) (λ (b : List ℕ). bytes ≡ b) → IsGraph bytes pairs → (a : Answer) (t : List ℕ) → FileSays mid new pairs script a t → RunSays old new graph script a t
 graph_read old mid new graph script bytes pairs once same is Done t h =
-    let second : IfSome (old.told script) (λ (s : List ℕ). ReportsScript pairs s t) = subst (λ (o : Option (List ℕ)). IfSome o (λ (s : List ℕ). ReportsScript pairs s t)) (once.same script) h in
-    told_once (old.told graph) bytes (λ (g : List ℕ). IfSome (old.told script) (λ (s : List ℕ). Reports g s t)) same
-    (told_more (old.told script) (λ (s : List ℕ). ReportsScript pairs s t) (λ (s : List ℕ). Reports bytes s t) (λ s r. record { pairs = pairs; is_graph = is; report = r }) second)
+    (bytes, same, earlier old mid script (λ (s : List ℕ). ReportsScript pairs s t) (λ (s : List ℕ). Reports bytes s t) once (λ s r. record { pairs = pairs; is_graph = is; report = r }) h)
 graph_read old mid new graph script bytes pairs once same is BadScript t h =
-    let second : IfSome (old.told script) (IsNoScript pairs) = subst (λ (o : Option (List ℕ)). IfSome o (IsNoScript pairs)) (once.same script) h.0 in (
-      told_once (old.told graph) bytes (λ (g : List ℕ). IfSome (old.told script) (λ (s : List ℕ). IsBadScript g s)) same
-          (told_more (old.told script) (IsNoScript pairs) (λ (s : List ℕ). IsBadScript bytes s) (λ s n. record { pairs = pairs; is_graph = is; none = n }) second),
-      h.1,
-    )
+    ((bytes, same, earlier old mid script (IsNoScript pairs) (λ (s : List ℕ). IsBadScript bytes s) once (λ s n. record { pairs = pairs; is_graph = is; none = n }) h.0), h.1)
 graph_read old mid new graph script bytes pairs once same is (ReadFault i) t h =
     let says : RunSays old new graph script (ReadFault input.Script) t =
-    record { reached = told_once (old.told graph) bytes (λ (b : List ℕ). (ps : List Pair) × IsGraph b ps) same (pairs, is); rose = rose_after 0 (old.faults script) (mid.faults script) (new.faults script) (once.faults script) h.1; line = h.2 } in
+    record { reached = (bytes, same, (pairs, is)); rose = rose_after 0 (old.faults script) (mid.faults script) (new.faults script) (once.faults script) h.1; line = h.2 } in
     subst (λ (x : Input). RunSays old new graph script (ReadFault x) t) (sym h.0) says
 graph_read old mid new graph script bytes pairs once same is (TooLong i) t h =
     let longer : IfSome (old.told script) (λ (b : List ℕ). FILE_BYTES < length b) = subst (λ (o : Option (List ℕ)). IfSome o (λ (b : List ℕ). FILE_BYTES < length b)) (once.same script) h.2 in
     let says : RunSays old new graph script (TooLong input.Script) t =
-    record { reached = told_once (old.told graph) bytes (λ (b : List ℕ). (ps : List Pair) × IsGraph b ps) same (pairs, is); rose = rose_after FILE_BYTES (old.taken script) (mid.taken script) (new.taken script) (once.taken script) h.1; longer = longer; line = h.3 } in
+    record { reached = (bytes, same, (pairs, is)); rose = rose_after FILE_BYTES (old.taken script) (mid.taken script) (new.taken script) (once.taken script) h.1; longer = longer; line = h.3 } in
     subst (λ (x : Input). RunSays old new graph script (TooLong x) t) (sym h.0) says
 graph_read old mid new graph script bytes pairs once same is Refused t h = absurd h
 graph_read old mid new graph script bytes pairs once same is Usage t h = absurd h

@@ -3,9 +3,8 @@ use Rattle.std.proofs.Common.{◌≡◌, ℕ, ◌+◌, ◌<◌, List, ◌++◌, 
 use Rattle.std.proofs.lemmas.List.{at_drop_more}
 use Rattle.wg_machine.specs.declared.launch.Entry.{Entry}
 use Rattle.wg_machine.specs.declared.shape.Shape.{Shape}
-use Rattle.wg_io.specs.Causes.{Appends}
+use Rattle.wg_io.specs.Causes.{Appends, AppendsFront}
 use Rattle.wg_journal.specs.Texts.{launch_line, launch_lines}
-use Rattle.wg_tool.specs.Answers.{AppendsFront}
 use Rattle.wg_tool.proofs.WriteLemmas.{front_after, front_of}
 
 -- one more line

@@ -30,11 +30,11 @@ use Rattle.wg_standing.specs.Standing.{StandsFor}
 use Rattle.wg_standing.specs.Idle.{IsIdle}
 use Rattle.wg_machine.specs.declared.journal.Done.{Done}
 use Rattle.wg_tool.specs.declared.pair.Pair.{Pair}
-use Rattle.wg_tool.specs.Report.{IsReport, report_text, done_in}
+use Rattle.wg_tool.specs.Report.{IsReportOfRun, complete_report, done_in}
 use Rattle.wg_tool.specs.Running.{IsOnlyOut, RanOne, IsShort}
-use Rattle.wg_tool.specs.Script.{IsScript, IsGoodEntry}
+use Rattle.wg_tool.specs.Script.{IsFormScript, IsFormEntry}
 use Rattle.wg_tool.specs.SenderLaws.{IsWired, sender_lawful}
-use Rattle.wg_tool.specs.Sending.{sender, target_at, one_sent, word_of}
+use Rattle.wg_tool.specs.Sending.{sender, target_at, one_sent, word_of_launch}
 use Rattle.wg_tool.specs.Wiring.{unit_of, later_units, targets_of, shape_of}
 use Rattle.wg_tool.proofs.GoodShapes.{unit_there, length_targets}
 use Rattle.wg_tool.proofs.ShapeLemmas.{unit_at, length_units}
@@ -100,11 +100,11 @@ only_threads pairs u = kind_in (shape_of pairs).units u (threads pairs)
 sends_one : (shape : Shape) (targets : List (Option ℕ)) (adds : List ℕ) → SendsOne shape (sender targets adds)
 sends_one shape targets adds l m t fits = few (target_at targets l.unit)
   where
-    few : (o : Option ℕ) → length (one_sent o ((word_of l + slice_index adds l.unit) % 2 ^ 32)) ≤ 1
+    few : (o : Option ℕ) → length (one_sent o ((word_of_launch l + slice_index adds l.unit) % 2 ^ 32)) ≤ 1
     few None = omega arith
     few (Some t) = omega arith
 
-entry_arrives : (pairs : List Pair) (s : Sent) → IsGoodEntry pairs s → Arrives (shape_of pairs) s
+entry_arrives : (pairs : List Pair) (s : Sent) → IsFormEntry pairs s → Arrives (shape_of pairs) s
 entry_arrives pairs s good =
     let ts = targets_of pairs in
     let n = length_targets 0 pairs in
@@ -117,12 +117,12 @@ entry_arrives pairs s good =
     record { unit = omega arith; words = ap (λ (w : List ℕ). length w) good.one ∙ sym words }
 
 -- the entry records arrive
-pub entries_arrive : (pairs : List Pair) (script : List Sent) → Each (IsGoodEntry pairs) script → Each (Arrives (shape_of pairs)) script
+pub entries_arrive : (pairs : List Pair) (script : List Sent) → Each (IsFormEntry pairs) script → Each (Arrives (shape_of pairs)) script
 entries_arrive pairs [] all = tt
 entries_arrive pairs (s ∷ script) all = (entry_arrives pairs s all.0, entries_arrive pairs script all.1)
 
 -- runs of a graph of the first form from a script are shorter than they may be
-pub runs_are_short : (pairs : List Pair) (targets : List (Option ℕ)) (adds : List ℕ) (script : List Sent) → ShortLaw → IsGoodShape (shape_of pairs) → IsWired (shape_of pairs) targets → IsScript pairs script → IsShort (shape_of pairs) (sender targets adds) script
+pub runs_are_short : (pairs : List Pair) (targets : List (Option ℕ)) (adds : List ℕ) (script : List Sent) → ShortLaw → IsGoodShape (shape_of pairs) → IsWired (shape_of pairs) targets → IsFormScript pairs script → IsShort (shape_of pairs) (sender targets adds) script
 runs_are_short pairs targets adds script law good wired entries core same stands =
     let made = sender targets adds in
     let run = subst (λ (s : Shape). IsRun s made core.limits.turns (start s script []) core.journal stands.trail stands.state) same stands.run in
@@ -140,7 +140,7 @@ done_equal l r d p b r' d' p' b' e f g h = rw (e, f, g, h) refl
 -- what a core that is done came to is the report of its run
 pub report_is : (made : Meaning) (script : List Sent) (core : CoreView) (r : Report) → OnceLaw → BytesLaw → RoomLaw → IdleLaw → IsGoodShape core.shape → StandsFor made script [] core → core.width ≡ 1 → core.limits.turns ≡ 65536 → IsIdle core
     → r.entries ≡ core.journal → r.records ≡ core.next → r.denied ≡ core.denied → r.peak ≡ core.peak → r.bytes ≡ plan_bytes core.shape core.width
-    → IsReport core.shape made script (report_text core.shape r.entries (done_in r))
+    → IsReportOfRun core.shape made script (complete_report core.shape r.entries (done_in r))
 report_is made script core r once_law bytes_law room_law idle_law good s width turns idle entries records denied peaks bytes =
     let shape = core.shape in
     let first = start shape script [] in
@@ -151,7 +151,7 @@ report_is made script core r once_law bytes_law room_law idle_law good s width t
     let complete = idle_law made script [] core s idle in
     let peak_is : r.peak ≡ peak shape n first s.trail = peaks ∙ (s.peak ∙ ap (λ (h : ℕ). peak shape h first s.trail) s.handed) in
     let bytes_are : r.bytes ≡ plan_bytes shape 1 = bytes ∙ ap (λ (w : ℕ). plan_bytes shape w) width in
-    let lines : report_text shape r.entries (done_in r) ≡ report_text shape core.journal (record { launches = length core.journal; records = r.records; denied = r.denied; peak = r.peak; bytes = r.bytes }) = ap (λ (j : List Entry). report_text shape j (record { launches = length j; records = r.records; denied = r.denied; peak = r.peak; bytes = r.bytes })) entries in
+    let lines : complete_report shape r.entries (done_in r) ≡ complete_report shape core.journal (record { launches = length core.journal; records = r.records; denied = r.denied; peak = r.peak; bytes = r.bytes }) = ap (λ (j : List Entry). complete_report shape j (record { launches = length j; records = r.records; denied = r.denied; peak = r.peak; bytes = r.bytes })) entries in
     let done = done_equal (length core.journal) r.records r.denied r.peak r.bytes s.state.next (denied_of s.trail) (peak shape n first s.trail) (plan_bytes shape 1) (records ∙ s.next) (denied ∙ s.denied) peak_is bytes_are in
     record {
       journal = core.journal;
@@ -162,7 +162,7 @@ report_is made script core r once_law bytes_law room_law idle_law good s width t
       once = once_law shape made 65536 script [] core.journal s.trail s.state run complete;
       within = each_weaker (KeepsSlots shape 1 n) (λ x. live_bytes shape n x ≤ plan_bytes shape 1) first s.trail (λ x k. bytes_law shape 1 n x k) slots;
       never_stands = each_weaker (KeepsSlots shape 1 n) (λ x. x.bag ≢ [] → SomeHasRoom shape 1 n x) first s.trail (λ x k. room_law shape 1 n x good (omega arith) k) slots;
-      text_is = lines ∙ ap (λ (d : Done). report_text shape core.journal d) done;
+      text_is = lines ∙ ap (λ (d : Done). complete_report shape core.journal d) done;
     }
 
 -- the numbers of sent records fit

@@ -17,7 +17,7 @@ use Rattle.wg_tool.specs.declared.pair.Pair.{Pair}
 use Rattle.wg_tool.specs.declared.script.TheConstants.{SCRIPT_LINE, ENTRY, BLANK, LINE_END}
 use Rattle.wg_tool.specs.Parts.{is_name, ends_name}
 use Rattle.wg_tool.specs.FirstForm.{IsGoodPair, IsFirstForm, is_named, names_differ}
-use Rattle.wg_tool.specs.Script.{entry_line, name_at, line_of, entry_lines, script_text, IsGoodEntry}
+use Rattle.wg_tool.specs.Script.{entry_line, name_at, line_of, entry_lines, script_text, IsFormEntry}
 use Rattle.wg_tool.specs.Wiring.{node_of, targets_of, is_free}
 use Rattle.wg_tool.proofs.PartLemmas.{name_once, word_once}
 use Rattle.wg_tool.proofs.FormLemmas.{all_regrouped, after_part}
@@ -87,14 +87,14 @@ good_name pairs u all h =
     subst (λ (n : List ℕ). IsTrue (is_name n)) (sym (name_is pairs u h)) p.name
 
 -- what a line that was read says of an entry record with that line
-pub entry_read : (pairs : List Pair) (bytes name rest more : List ℕ) (word : ℕ) (s : Sent) → IsFirstForm pairs → IsTrue (is_name name) → word < 2 ^ 32 → bytes ≡ entry_line name word ++ rest → IsGoodEntry pairs s → bytes ≡ line_of pairs s ++ more → (position (is_named name) pairs ≡ Some s.unit) × (word ≡ slice_index s.words 0) × (rest ≡ more)
+pub entry_read : (pairs : List Pair) (bytes name rest more : List ℕ) (word : ℕ) (s : Sent) → IsFirstForm pairs → IsTrue (is_name name) → word < 2 ^ 32 → bytes ≡ entry_line name word ++ rest → IsFormEntry pairs s → bytes ≡ line_of pairs s ++ more → (position (is_named name) pairs ≡ Some s.unit) × (word ≡ slice_index s.words 0) × (rest ≡ more)
 entry_read pairs bytes name rest more word s form is few p good e =
     let h = line_once name (name_at pairs s.unit) rest more word (slice_index s.words 0) is (good_name pairs s.unit form.each good.unit) few good.word (sym p ∙ e) in
     (subst (λ (n : List ℕ). position (is_named n) pairs ≡ Some s.unit) (sym h.0) (place_is pairs s.unit form.differ good.unit), h.1, h.2)
 
 -- what reads an entry record has found it
 pub entry_found : (pairs : List Pair) (bytes name rest words : List ℕ) (word u unit : ℕ) → bytes ≡ entry_line name word ++ rest → word < 2 ^ 32 → position (is_named name) pairs ≡ Some u → unit ≡ u → is_free (targets_of pairs) unit ≡ true → words ≡ word ∷ []
-    → let s : Sent = record { unit = unit; words = words } in IsGoodEntry pairs s × (bytes ≡ line_of pairs s ++ rest)
+    → let s : Sent = record { unit = unit; words = words } in IsFormEntry pairs s × (bytes ≡ line_of pairs s ++ rest)
 entry_found pairs bytes name rest words word u unit p few at e free w =
     let named = placed_name pairs name u at in
     rw (w, e) (record { unit = named.0; free = subst (λ (n : ℕ). is_free (targets_of pairs) n ≡ true) e free; one = refl; word = few }, p ∙ ap (λ (n : List ℕ). entry_line n word ++ rest) (sym named.1))
@@ -106,7 +106,7 @@ one_word : (s : Sent) (w : ℕ) → s.words ≡ w ∷ [] → let t : Sent = reco
 one_word s w e = ap (λ (l : List ℕ). let t : Sent = record { unit = s.unit; words = l } in t) e
 
 -- a text begins with one entry record
-pub entry_once : (pairs : List Pair) (s t : Sent) (a b : List ℕ) → IsFirstForm pairs → IsGoodEntry pairs s → IsGoodEntry pairs t → line_of pairs s ++ a ≡ line_of pairs t ++ b → (s ≡ t) × (a ≡ b)
+pub entry_once : (pairs : List Pair) (s t : Sent) (a b : List ℕ) → IsFirstForm pairs → IsFormEntry pairs s → IsFormEntry pairs t → line_of pairs s ++ a ≡ line_of pairs t ++ b → (s ≡ t) × (a ≡ b)
 entry_once pairs s t a b form g h e =
     let k = line_once (name_at pairs s.unit) (name_at pairs t.unit) a b (slice_index s.words 0) (slice_index t.words 0) (good_name pairs s.unit form.each g.unit) (good_name pairs t.unit form.each h.unit) g.word h.word e in
     let unit = name_place pairs s.unit t.unit form.differ g.unit h.unit k.0 in
@@ -117,18 +117,18 @@ entry_lines_push pairs [] s = append-nil (line_of pairs s)
 entry_lines_push pairs (x ∷ entries) s = ap (λ (t : List ℕ). line_of pairs x ++ t) (entry_lines_push pairs entries s) ∙ sym (append_assoc (line_of pairs x) (entry_lines pairs entries) (line_of pairs s))
 
 -- what is left of the entries of a text, after one more
-pub entries_left : (pairs : List Pair) (rest after : List ℕ) (so_far es : List Sent) (s : Sent) → IsFirstForm pairs → IsGoodEntry pairs s → rest ≢ [] → rest ≡ line_of pairs s ++ after → (tail : List Sent) → es ≡ so_far ++ tail → Each (IsGoodEntry pairs) tail → rest ≡ entry_lines pairs tail → (more : List Sent) × (es ≡ (so_far ++ s ∷ []) ++ more) × Each (IsGoodEntry pairs) more × (after ≡ entry_lines pairs more)
+pub entries_left : (pairs : List Pair) (rest after : List ℕ) (so_far es : List Sent) (s : Sent) → IsFirstForm pairs → IsFormEntry pairs s → rest ≢ [] → rest ≡ line_of pairs s ++ after → (tail : List Sent) → es ≡ so_far ++ tail → Each (IsFormEntry pairs) tail → rest ≡ entry_lines pairs tail → (more : List Sent) × (es ≡ (so_far ++ s ∷ []) ++ more) × Each (IsFormEntry pairs) more × (after ≡ entry_lines pairs more)
 entries_left pairs rest after so_far es s form good some e [] h all q = absurd (some q)
 entries_left pairs rest after so_far es s form good some e (x ∷ xs) h all q =
     let same = entry_once pairs x s (entry_lines pairs xs) after form all.0 good (sym q ∙ e) in
     (xs, h ∙ (ap (λ (y : Sent). so_far ++ y ∷ xs) same.0 ∙ sym (append_assoc so_far (s ∷ []) xs)), all.1, sym same.1)
 
 -- a text that is left has a first entry record
-pub first_entry : (pairs : List Pair) (rest : List ℕ) (tail : List Sent) → rest ≢ [] → Each (IsGoodEntry pairs) tail → rest ≡ entry_lines pairs tail → (s : Sent) × (more : List ℕ) × IsGoodEntry pairs s × (rest ≡ line_of pairs s ++ more)
+pub first_entry : (pairs : List Pair) (rest : List ℕ) (tail : List Sent) → rest ≢ [] → Each (IsFormEntry pairs) tail → rest ≡ entry_lines pairs tail → (s : Sent) × (more : List ℕ) × IsFormEntry pairs s × (rest ≡ line_of pairs s ++ more)
 first_entry pairs rest [] some all q = absurd (some q)
 first_entry pairs rest (x ∷ xs) some all q = (x, entry_lines pairs xs, all.0, q)
 
-entries_once : (pairs : List Pair) (es fs : List Sent) → IsFirstForm pairs → Each (IsGoodEntry pairs) es → Each (IsGoodEntry pairs) fs → entry_lines pairs es ≡ entry_lines pairs fs → es ≡ fs
+entries_once : (pairs : List Pair) (es fs : List Sent) → IsFirstForm pairs → Each (IsFormEntry pairs) es → Each (IsFormEntry pairs) fs → entry_lines pairs es ≡ entry_lines pairs fs → es ≡ fs
 entries_once pairs [] [] form p q e = refl
 entries_once pairs [] (y ∷ fs) form p q e = absurd (cc)
 entries_once pairs (x ∷ es) [] form p q e = absurd (cc)
@@ -138,5 +138,5 @@ entries_once pairs (x ∷ es) (y ∷ fs) form p q e =
     rw (h.0, t) refl
 
 -- one text has one list of entry records
-pub script_once : (pairs : List Pair) (es fs : List Sent) → IsFirstForm pairs → Each (IsGoodEntry pairs) es → Each (IsGoodEntry pairs) fs → script_text pairs es ≡ script_text pairs fs → es ≡ fs
+pub script_once : (pairs : List Pair) (es fs : List Sent) → IsFirstForm pairs → Each (IsFormEntry pairs) es → Each (IsFormEntry pairs) fs → script_text pairs es ≡ script_text pairs fs → es ≡ fs
 script_once pairs es fs form p q e = entries_once pairs es fs form p q (append_cancel_left SCRIPT_LINE.now _ _ e)

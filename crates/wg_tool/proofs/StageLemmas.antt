@@ -8,31 +8,32 @@ use Rattle.wg_core.specs.declared.report.Report.{Report}
 use Rattle.wg_tool.specs.declared.answer.Answer.{Answer}
 use Rattle.wg_tool.specs.declared.answer.Answer.TheVariants.{Done}
 use Rattle.wg_tool.specs.declared.pair.Pair.{Pair}
-use Rattle.wg_tool.specs.Answers.{AppendsFront, BeginsText}
+use Rattle.wg_io.specs.Causes.{AppendsFront}
+use Rattle.wg_tool.specs.Answers.{BeginsText}
 use Rattle.wg_tool.specs.Headline.{ReportsScript}
-use Rattle.wg_tool.specs.Report.{IsReport, report_text, done_in}
-use Rattle.wg_tool.specs.Script.{IsScript, script_text}
+use Rattle.wg_tool.specs.Report.{IsReportOfRun, complete_report, done_in}
+use Rattle.wg_tool.specs.Script.{IsFormScript, script_text}
 use Rattle.wg_tool.specs.Sending.{sender, made_of, adds_of}
 use Rattle.wg_tool.specs.Stages.{RanSays, ScriptSays}
 use Rattle.wg_tool.specs.Wiring.{shape_of, targets_of}
 
 -- a front of the report is written
-pub report_begun : (shape : Shape) (made : Meaning) (script : List Sent) (r : Report) (es : List Entry) (launches : ℕ) (old new : Option (List ℕ)) → IsReport shape made script (report_text shape r.entries (done_in r)) → es ≡ r.entries → launches ≡ length r.entries
-    → AppendsFront old new (report_text shape es (record { launches = launches; records = r.records; denied = r.denied; peak = r.peak; bytes = r.bytes })) → BeginsText (RanSays shape made script) old new
+pub report_begun : (shape : Shape) (made : Meaning) (script : List Sent) (r : Report) (es : List Entry) (launches : ℕ) (old new : Option (List ℕ)) → IsReportOfRun shape made script (complete_report shape r.entries (done_in r)) → es ≡ r.entries → launches ≡ length r.entries
+    → AppendsFront old new (complete_report shape es (record { launches = launches; records = r.records; denied = r.denied; peak = r.peak; bytes = r.bytes })) → BeginsText (RanSays shape made script) old new
 report_begun shape made script r es launches old new report e l front =
-    let lines : report_text shape es (record { launches = launches; records = r.records; denied = r.denied; peak = r.peak; bytes = r.bytes }) ≡ report_text shape r.entries (done_in r) =
-    ap (λ (j : List Entry). report_text shape j (record { launches = launches; records = r.records; denied = r.denied; peak = r.peak; bytes = r.bytes })) e
-    ∙ ap (λ (n : ℕ). report_text shape r.entries (record { launches = n; records = r.records; denied = r.denied; peak = r.peak; bytes = r.bytes })) l in
-    (Done, report_text shape r.entries (done_in r), (refl, report), subst (λ (t : List ℕ). AppendsFront old new t) lines front)
+    let lines : complete_report shape es (record { launches = launches; records = r.records; denied = r.denied; peak = r.peak; bytes = r.bytes }) ≡ complete_report shape r.entries (done_in r) =
+    ap (λ (j : List Entry). complete_report shape j (record { launches = launches; records = r.records; denied = r.denied; peak = r.peak; bytes = r.bytes })) e
+    ∙ ap (λ (n : ℕ). complete_report shape r.entries (record { launches = n; records = r.records; denied = r.denied; peak = r.peak; bytes = r.bytes })) l in
+    (Done, complete_report shape r.entries (done_in r), (refl, report), subst (λ (t : List ℕ). AppendsFront old new t) lines front)
 
-report_for : (pairs : List Pair) (shape : Shape) (targets : List (Option ℕ)) (adds : List ℕ) (script : List Sent) (text : List ℕ) → shape ≡ shape_of pairs → targets ≡ targets_of pairs → adds ≡ adds_of pairs → IsReport shape (sender targets adds) script text → IsReport (shape_of pairs) (made_of pairs) script text
+report_for : (pairs : List Pair) (shape : Shape) (targets : List (Option ℕ)) (adds : List ℕ) (script : List Sent) (text : List ℕ) → shape ≡ shape_of pairs → targets ≡ targets_of pairs → adds ≡ adds_of pairs → IsReportOfRun shape (sender targets adds) script text → IsReportOfRun (shape_of pairs) (made_of pairs) script text
 report_for pairs shape targets adds script text s t a report =
-    let one = subst (λ (x : Shape). IsReport x (sender targets adds) script text) s report in
-    let two = subst (λ (x : List (Option ℕ)). IsReport (shape_of pairs) (sender x adds) script text) t one in
-    subst (λ (x : List ℕ). IsReport (shape_of pairs) (sender (targets_of pairs) x) script text) a two
+    let one = subst (λ (x : Shape). IsReportOfRun x (sender targets adds) script text) s report in
+    let two = subst (λ (x : List (Option ℕ)). IsReportOfRun (shape_of pairs) (sender x adds) script text) t one in
+    subst (λ (x : List ℕ). IsReportOfRun (shape_of pairs) (sender (targets_of pairs) x) script text) a two
 
 -- the report of a run is that of the script
-pub ran_script : (pairs : List Pair) (bytes : List ℕ) (shape : Shape) (targets : List (Option ℕ)) (adds : List ℕ) (script : List Sent) → shape ≡ shape_of pairs → targets ≡ targets_of pairs → adds ≡ adds_of pairs → IsScript pairs script → bytes ≡ script_text pairs script
+pub ran_script : (pairs : List Pair) (bytes : List ℕ) (shape : Shape) (targets : List (Option ℕ)) (adds : List ℕ) (script : List Sent) → shape ≡ shape_of pairs → targets ≡ targets_of pairs → adds ≡ adds_of pairs → IsFormScript pairs script → bytes ≡ script_text pairs script
     → (a : Answer) (text : List ℕ) → RanSays shape (sender targets adds) script a text → ScriptSays pairs bytes a text
 ran_script pairs bytes shape targets adds script s t d is e a text h =
     let report = report_for pairs shape targets adds script text s t d h.1 in

@@ -13,8 +13,8 @@ use Rattle.wg_tool.specs.declared.answer.TheConstants.{REFUSED, BAD_SCRIPT, USAG
 use Rattle.wg_tool.specs.declared.limits.TheConstants.{FILE_BYTES}
 use Rattle.wg_tool.specs.Answers.{status_of, Concludes}
 use Rattle.wg_tool.specs.FirstForm.{graph_text, IsFirstForm, IsNoGraph}
-use Rattle.wg_tool.specs.Report.{IsReport}
-use Rattle.wg_tool.specs.Script.{script_text, IsScript, IsNoScript}
+use Rattle.wg_tool.specs.Report.{IsReportOfRun}
+use Rattle.wg_tool.specs.Script.{script_text, IsFormScript, IsNoScript}
 use Rattle.wg_tool.specs.Sending.{made_of}
 use Rattle.wg_tool.specs.Wiring.{shape_of}
 
@@ -45,9 +45,9 @@ pub record IsGraph (graph : List ℕ) (pairs : List Pair) : Type 0 where
 -- the text is the report of a graph's run from the script
 pub record ReportsScript (pairs : List Pair) (script text : List ℕ) : Type 0 where
   pub entries : List Sent
-  pub is_script : IsScript pairs entries
+  pub is_script : IsFormScript pairs entries
   pub script_is : script ≡ script_text pairs entries
-  pub report : IsReport (shape_of pairs) (made_of pairs) entries text
+  pub report : IsReportOfRun (shape_of pairs) (made_of pairs) entries text
 
 -- the text is the report of the graph's run from the script
 pub record Reports (graph script text : List ℕ) : Type 0 where
@@ -62,14 +62,18 @@ pub record IsBadScript (graph script : List ℕ) : Type 0 where
   pub none : IsNoScript pairs script
 
 -- the name of a file
-abbrev pub name_of : Input → List ℕ → List ℕ → List ℕ
-name_of input.Graph graph script = graph
-name_of input.Script graph script = script
+abbrev pub name_of_input : Input → List ℕ → List ℕ → List ℕ
+name_of_input input.Graph graph script = graph
+name_of_input input.Script graph script = script
 
--- The file is read after what comes before it: the script's after a graph of the first form, where that is told.
-abbrev pub Reached : FilesView → Input → List ℕ → Type 0
-Reached old input.Graph graph = ⊤
-Reached old input.Script graph = IfSome (old.told graph) (λ (bytes : List ℕ). (pairs : List Pair) × IsGraph bytes pairs)
+-- this holds of bytes that a name has: those that are told of it, or some where none are
+abbrev pub OfFile : FilesView → List ℕ → (List ℕ → Type 0) → Type 0
+OfFile files name P = (bytes : List ℕ) × IfSome (files.told name) (λ (told : List ℕ). bytes ≡ told) × P bytes
+
+-- The file is read after what comes before it: the script's after a graph of the first form.
+abbrev pub ComesToRead : FilesView → Input → List ℕ → Type 0
+ComesToRead old input.Graph graph = ⊤
+ComesToRead old input.Script graph = OfFile old graph (λ (bytes : List ℕ). (pairs : List Pair) × IsGraph bytes pairs)
 
 abbrev pub read_fault_line : List ℕ → List ℕ
 read_fault_line name = codes "read fault " ++ name ++ codes "\n"
@@ -79,25 +83,25 @@ too_long_line name limit = codes "too long " ++ name ++ codes " limit " ++ decim
 
 -- reading a file failed: its count rose in this call
 pub record SaysReadFault (old new : FilesView) (input : Input) (graph script text : List ℕ) : Type 0 where
-  pub reached : Reached old input graph
-  pub rose : Rose (old.faults (name_of input graph script)) (new.faults (name_of input graph script))
-  pub line : text ≡ read_fault_line (name_of input graph script)
+  pub reached : ComesToRead old input graph
+  pub rose : Rose (old.faults (name_of_input input graph script)) (new.faults (name_of_input input graph script))
+  pub line : text ≡ read_fault_line (name_of_input input graph script)
 
 -- a file passes its limit: more bytes than it were taken in this call, and where they are told there are more
 pub record SaysTooLong (old new : FilesView) (input : Input) (graph script text : List ℕ) : Type 0 where
-  pub reached : Reached old input graph
-  pub rose : RoseBeyond FILE_BYTES (old.taken (name_of input graph script)) (new.taken (name_of input graph script))
-  pub longer : IfSome (old.told (name_of input graph script)) (λ (bytes : List ℕ). FILE_BYTES < length bytes)
-  pub line : text ≡ too_long_line (name_of input graph script) FILE_BYTES
+  pub reached : ComesToRead old input graph
+  pub rose : RoseBeyond FILE_BYTES (old.taken (name_of_input input graph script)) (new.taken (name_of_input input graph script))
+  pub longer : IfSome (old.told (name_of_input input graph script)) (λ (bytes : List ℕ). FILE_BYTES < length bytes)
+  pub line : text ≡ too_long_line (name_of_input input graph script) FILE_BYTES
 
--- what is said of two told files
+-- what is said of the bytes of two names
 abbrev pub OfBoth : FilesView → List ℕ → List ℕ → (List ℕ → List ℕ → Type 0) → Type 0
-OfBoth old graph script P = IfSome (old.told graph) (λ (g : List ℕ). IfSome (old.told script) (λ (s : List ℕ). P g s))
+OfBoth old graph script P = OfFile old graph (λ (g : List ℕ). OfFile old script (λ (s : List ℕ). P g s))
 
 -- the cause and the text of an answer to `run` with the names of a graph and a script
 abbrev pub RunSays : FilesView → FilesView → List ℕ → List ℕ → Answer → List ℕ → Type 0
 RunSays old new graph script Done text = OfBoth old graph script (λ g s. Reports g s text)
-RunSays old new graph script Refused text = IfSome (old.told graph) IsNoGraph × (text ≡ REFUSED.now)
+RunSays old new graph script Refused text = OfFile old graph IsNoGraph × (text ≡ REFUSED.now)
 RunSays old new graph script Usage text = ⊥
 RunSays old new graph script BadScript text = OfBoth old graph script IsBadScript × (text ≡ BAD_SCRIPT.now)
 RunSays old new graph script (ReadFault i) text = SaysReadFault old new i graph script text
@@ -106,15 +110,15 @@ RunSays old new graph script OutOfMemory text = ⊥
 RunSays old new graph script (TooLong i) text = SaysTooLong old new i graph script text
 
 -- The cause and the text of an answer: the words are no form of the command, or they are `run` with two names.
-abbrev pub Says : List (List ℕ) → FilesView → FilesView → Answer → List ℕ → Type 0
-Says words old new given text =
+abbrev pub CommandSays : List (List ℕ) → FilesView → FilesView → Answer → List ℕ → Type 0
+CommandSays words old new given text =
     (((graph script : List ℕ) → AreRun words graph script → ⊥) × (given ≡ Usage) × (text ≡ USAGE.now))
     ⊎ ((graph : List ℕ) × (script : List ℕ) × AreRun words graph script × RunSays old new graph script given text)
 
 -- The headline: the status is that of an answer, whose cause holds, and whose text is written.
 abbrev pub Headline : List (List ℕ) → FilesView → FilesView → SinkView → SinkView → ℕ → Type 0
 Headline words old new before now status =
-    (given : Answer) × (status ≡ status_of given) × Concludes (Says words old new) before.written now.written before.faults now.faults given
+    (given : Answer) × (status ≡ status_of given) × Concludes (CommandSays words old new) before.written now.written before.faults now.faults given
 
 -- The words, a graph and a script of the first form within their limits, both told, and no counted fault.
 pub record IsFineRun (words : List (List ℕ)) (old new : FilesView) (before now : SinkView) (pairs : List Pair) (entries : List Sent) : Type 0 where
@@ -122,7 +126,7 @@ pub record IsFineRun (words : List (List ℕ)) (old new : FilesView) (before now
   pub script : List ℕ
   pub run : AreRun words graph script
   pub form : IsFirstForm pairs
-  pub is_script : IsScript pairs entries
+  pub is_script : IsFormScript pairs entries
   pub graph_told : old.told graph ≡ Some (graph_text pairs)
   pub script_told : old.told script ≡ Some (script_text pairs entries)
   pub graph_fits : length (graph_text pairs) ≤ FILE_BYTES
@@ -134,5 +138,5 @@ pub record IsFineRun (words : List (List ℕ)) (old new : FilesView) (before now
 -- the whole report of the run is written at status 0, or memory was wanting
 abbrev pub Completes : SinkView → SinkView → List Pair → List Sent → ℕ → Type 0
 Completes before now pairs entries status =
-    ((status ≡ 0) × ((text : List ℕ) × IsReport (shape_of pairs) (made_of pairs) entries text × Appends before.written now.written text))
+    ((status ≡ 0) × ((text : List ℕ) × IsReportOfRun (shape_of pairs) (made_of pairs) entries text × Appends before.written now.written text))
     ⊎ (status ≡ 8)

@@ -30,12 +30,12 @@ abbrev pub done_in : Report → Done
 done_in r = record { launches = length r.entries; records = r.records; denied = r.denied; peak = r.peak; bytes = r.bytes }
 
 -- the launch lines of a journal, and the last line
-abbrev pub report_text : Shape → List Entry → Done → List ℕ
-report_text shape journal done = launch_lines shape 0 journal ++ done_line done
+abbrev pub complete_report : Shape → List Entry → Done → List ℕ
+complete_report shape journal done = launch_lines shape 0 journal ++ done_line done
 
 -- The text is the report of a complete run that takes each group of each record once. At every prefix of the run the
 -- live records have no more bytes than the last line says, and where records wait some unit of theirs has room.
-pub record IsReport (shape : Shape) (made : Meaning) (script : List Sent) (text : List ℕ) : Type 0 where
+pub record IsReportOfRun (shape : Shape) (made : Meaning) (script : List Sent) (text : List ℕ) : Type 0 where
   pub journal : List Entry
   pub trail : List Passed
   pub final : State
@@ -44,4 +44,4 @@ pub record IsReport (shape : Shape) (made : Meaning) (script : List Sent) (text 
   pub once : EachOnce (all_born shape script trail) journal
   pub within : EachState (λ s. live_bytes shape (length script) s ≤ plan_bytes shape 1) (start shape script []) trail
   pub never_stands : EachState (λ s. s.bag ≢ [] → SomeHasRoom shape 1 (length script) s) (start shape script []) trail
-  pub text_is : text ≡ report_text shape journal (done_of shape script journal trail final)
+  pub text_is : text ≡ complete_report shape journal (done_of shape script journal trail final)

@@ -9,7 +9,7 @@ use Rattle.wg_standing.specs.Standing.{StandsFor}
 use Rattle.wg_tool.specs.declared.limits.TheConstants.{LAUNCHES}
 use Rattle.wg_tool.specs.declared.pair.Pair.{Pair}
 use Rattle.wg_tool.specs.FirstForm.{IsFirstForm}
-use Rattle.wg_tool.specs.Script.{IsScript}
+use Rattle.wg_tool.specs.Script.{IsFormScript}
 use Rattle.wg_tool.specs.Wiring.{shape_of}
 
 -- the graph, its plan and the limits stay
@@ -19,7 +19,7 @@ pub record KeepsPlan (old new : CoreView) : Type 0 where
   pub limits : new.limits ≡ old.limits
 
 -- no launch is out, and none was spent
-pub record IsReady (core : CoreView) : Type 0 where
+pub record IsBetweenLaunches (core : CoreView) : Type 0 where
   pub outs : core.outs ≡ []
   pub free : core.stopped ≡ None
 
@@ -32,7 +32,7 @@ pub record IsOnlyOut (core : CoreView) (ticket : ℕ) : Type 0 where
 
 -- one more launch is in the journal
 pub record RanOne (old new : CoreView) : Type 0 where
-  pub ready : IsReady new
+  pub ready : IsBetweenLaunches new
   pub longer : length new.journal ≡ length old.journal + 1
 
 -- a core of the shape that stands for the script has fewer launches than a run may make
@@ -50,4 +50,4 @@ pub record IsRunnable (shape : Shape) (script : List Sent) : Type 0 where
   pub pairs : List Pair
   pub form : IsFirstForm pairs
   pub is : shape ≡ shape_of pairs
-  pub entries : IsScript pairs script
+  pub entries : IsFormScript pairs script

@@ -28,17 +28,17 @@ abbrev pub script_text : List Pair → List Sent → List ℕ
 script_text pairs entries = SCRIPT_LINE.now ++ entry_lines pairs entries
 
 -- an entry record of one word, for a node to which nothing is sent
-pub record IsGoodEntry (pairs : List Pair) (s : Sent) : Type 0 where
+pub record IsFormEntry (pairs : List Pair) (s : Sent) : Type 0 where
   pub unit : s.unit < length pairs
   pub free : IsTrue (is_free (targets_of pairs) s.unit)
   pub one : s.words ≡ slice_index s.words 0 ∷ []
   pub word : slice_index s.words 0 < 2 ^ 32
 
 -- The entries are those of a script of the first form: at most 1,000.
-pub record IsScript (pairs : List Pair) (entries : List Sent) : Type 0 where
+pub record IsFormScript (pairs : List Pair) (entries : List Sent) : Type 0 where
   pub few : length entries ≤ 1000
-  pub each : Each (IsGoodEntry pairs) entries
+  pub each : Each (IsFormEntry pairs) entries
 
 -- no script of the first form has the text
 abbrev pub IsNoScript : List Pair → List ℕ → Type 0
-IsNoScript pairs text = (entries : List Sent) → IsScript pairs entries → text ≡ script_text pairs entries → ⊥
+IsNoScript pairs text = (entries : List Sent) → IsFormScript pairs entries → text ≡ script_text pairs entries → ⊥

@@ -10,7 +10,7 @@ use Rattle.wg_machine.specs.declared.shape.Unit.{Unit}
 use Rattle.wg_machine.specs.Buffers.{Buffers}
 use Rattle.wg_machine.specs.LaunchMeaning.{KeepsLaws, KeepsBudgets}
 use Rattle.wg_machine.specs.Units.{words_at}
-use Rattle.wg_tool.specs.Sending.{word_of, target_at, one_sent, sender}
+use Rattle.wg_tool.specs.Sending.{word_of_launch, target_at, one_sent, sender}
 use Rattle.wg_tool.specs.Wiring.{budgets_of, outputs_of}
 
 abbrev pub outputs_at : Shape → ℕ → List Output
@@ -61,4 +61,4 @@ keeps shape targets launch buffers turns w (Some t) wired e =
 
 pub sender_lawful : (shape : Shape) (targets : List (Option ℕ)) (adds : List ℕ) (launch : Launch) (buffers : Buffers) (turns : ℕ) → IsWired shape targets → IfSome (sender targets adds launch buffers turns) (KeepsLaws shape launch buffers turns)
 sender_lawful shape targets adds launch buffers turns wired =
-    keeps shape targets launch buffers turns ((word_of launch + slice_index adds launch.unit) % 2 ^ 32) (target_at targets launch.unit) wired refl
+    keeps shape targets launch buffers turns ((word_of_launch launch + slice_index adds launch.unit) % 2 ^ 32) (target_at targets launch.unit) wired refl

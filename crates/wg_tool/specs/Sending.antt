@@ -10,8 +10,8 @@ use Rattle.wg_tool.specs.declared.pair.Sends.{Sends}
 use Rattle.wg_tool.specs.Wiring.{targets_of}
 
 -- the first word of a launch's first record
-abbrev pub word_of : Launch → ℕ
-word_of launch = slice_index (unwrap_or (option_map (λ (r : Record). r.words) (slice_get launch.records 0)) []) 0
+abbrev pub word_of_launch : Launch → ℕ
+word_of_launch launch = slice_index (unwrap_or (option_map (λ (r : Record). r.words) (slice_get launch.records 0)) []) 0
 
 abbrev pub target_at : List (Option ℕ) → ℕ → Option ℕ
 target_at targets u = unwrap_or (slice_get targets u) None
@@ -23,7 +23,7 @@ one_sent (Some t) word = record { unit = t; words = word ∷ [] } ∷ []
 
 -- what a launch sends, by the targets and the added words of the units
 abbrev pub sent_of : List (Option ℕ) → List ℕ → Launch → List Sent
-sent_of targets adds launch = one_sent (target_at targets launch.unit) ((word_of launch + slice_index adds launch.unit) % 2 ^ 32)
+sent_of targets adds launch = one_sent (target_at targets launch.unit) ((word_of_launch launch + slice_index adds launch.unit) % 2 ^ 32)
 
 -- No request is denied, no turn is made, and the buffers stay.
 abbrev pub sender : List (Option ℕ) → List ℕ → Meaning

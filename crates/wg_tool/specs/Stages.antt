@@ -13,8 +13,8 @@ use Rattle.wg_tool.specs.declared.answer.Input.TheVariants as input
 use Rattle.wg_tool.specs.declared.answer.TheConstants.{BAD_SCRIPT}
 use Rattle.wg_tool.specs.declared.limits.TheConstants.{FILE_BYTES}
 use Rattle.wg_tool.specs.declared.pair.Pair.{Pair}
-use Rattle.wg_tool.specs.Headline.{FilesView, ReportsScript, read_fault_line, too_long_line}
-use Rattle.wg_tool.specs.Report.{IsReport}
+use Rattle.wg_tool.specs.Headline.{FilesView, OfFile, ReportsScript, read_fault_line, too_long_line}
+use Rattle.wg_tool.specs.Report.{IsReportOfRun}
 use Rattle.wg_tool.specs.Script.{IsNoScript}
 
 -- the line of a fault of reading a file
@@ -25,7 +25,7 @@ FaultSays fault.Memory i name given text = ⊥
 
 -- the report of a run
 abbrev pub RanSays : Shape → Meaning → List Sent → Answer → List ℕ → Type 0
-RanSays shape made entries given text = (given ≡ Done) × IsReport shape made entries text
+RanSays shape made entries given text = (given ≡ Done) × IsReportOfRun shape made entries text
 
 -- what a graph and a script's bytes lead to
 abbrev pub ScriptSays : List Pair → List ℕ → Answer → List ℕ → Type 0
@@ -40,8 +40,8 @@ ScriptSays pairs script (TooLong i) text = ⊥
 
 -- what a graph and the name of a script's file lead to
 abbrev pub FileSays : FilesView → FilesView → List Pair → List ℕ → Answer → List ℕ → Type 0
-FileSays old new pairs name Done text = IfSome (old.told name) (λ (s : List ℕ). ReportsScript pairs s text)
-FileSays old new pairs name BadScript text = IfSome (old.told name) (IsNoScript pairs) × (text ≡ BAD_SCRIPT.now)
+FileSays old new pairs name Done text = OfFile old name (λ (s : List ℕ). ReportsScript pairs s text)
+FileSays old new pairs name BadScript text = OfFile old name (IsNoScript pairs) × (text ≡ BAD_SCRIPT.now)
 FileSays old new pairs name (ReadFault i) text = (i ≡ input.Script) × Rose (old.faults name) (new.faults name) × (text ≡ read_fault_line name)
 FileSays old new pairs name (TooLong i) text =
     (i ≡ input.Script) × RoseBeyond FILE_BYTES (old.taken name) (new.taken name)

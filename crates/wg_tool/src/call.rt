@@ -1,8 +1,8 @@
 ghost use Rattle.std.specs.Prelude.{◌≡◌, List, ℕ, IfSome, IfNone};
-ghost use Rattle.wg_machine.specs.declared.launch.Sent.{Sent as Record};
-ghost use Rattle.wg_tool.specs.declared.pair.Pair.{Pair as Lines};
+ghost use Rattle.wg_machine.specs.declared.launch.Sent.{Sent as SentOf};
+ghost use Rattle.wg_tool.specs.declared.pair.Pair.{Pair as PairOf};
 ghost use Rattle.wg_tool.specs.Answers.{Concludes, status_of};
-ghost use Rattle.wg_tool.specs.Headline.{AreRun, Says, Headline, IsFineRun, Completes, texts_of};
+ghost use Rattle.wg_tool.specs.Headline.{AreRun, CommandSays, Headline, IsFineRun, Completes, texts_of};
 
 use crate::answer::{Answer, USAGE};
 use crate::say::say;
@@ -33,7 +33,7 @@ fn names_of(words: &[String]) -> Option<(&str, &str)>
 
 /// Does what the words ask for.
 fn answer<F: Files, S: Sink>(alloc: Global, words: &[String], files: &mut F, out: &mut S) -> Answer
-    ensures { Concludes (Says (texts_of words.now)
+    ensures { Concludes (CommandSays (texts_of words.now)
         (record { told = F.told files.old; faults = F.faults files.old; taken = F.taken files.old })
         (record { told = F.told files.new; faults = F.faults files.new; taken = F.taken files.new }))
         (S.written out.old) (S.written out.new) (S.faults out.old) (S.faults out.new) result }
@@ -75,7 +75,7 @@ pub fn steady<F: Files, S: Sink>(
         (record { told = F.told files.new; faults = F.faults files.new; taken = F.taken files.new })
         (record { written = S.written out.old; faults = S.faults out.old })
         (record { written = S.written out.new; faults = S.faults out.new }) result.0 }
-    ensures complete { (pairs : List Lines) (entries : List Record) → IsFineRun (texts_of words.now)
+    ensures complete { (pairs : List PairOf) (entries : List SentOf) → IsFineRun (texts_of words.now)
         (record { told = F.told files.old; faults = F.faults files.old; taken = F.taken files.old })
         (record { told = F.told files.new; faults = F.faults files.new; taken = F.taken files.new })
         (record { written = S.written out.old; faults = S.faults out.old })

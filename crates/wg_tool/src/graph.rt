@@ -1,7 +1,7 @@
 ghost use Rattle.std.specs.Prelude.{◌≡◌, ◌≢◌, ◌<◌, ◌≤◌, ◌^◌, ◌++◌, List, ℕ, length, Option, IsTrue, IfOk, IfSome, IfNone};
 ghost use Rattle.std.specs.List.{list_any};
-ghost use Rattle.wg_tool.specs.declared.pair.Pair.{Pair as Lines};
-ghost use Rattle.wg_tool.specs.declared.pair.Sends.{Sends as Sending};
+ghost use Rattle.wg_tool.specs.declared.pair.Pair.{Pair as PairOf};
+ghost use Rattle.wg_tool.specs.declared.pair.Sends.{Sends as SendsOf};
 ghost use Rattle.wg_words.specs.Each.{Each};
 ghost use Rattle.wg_tool.specs.Parts.{is_name, ends_name};
 ghost use Rattle.wg_tool.specs.FirstForm.{head_text, target_text, sending_text, pair_text, pairs_text, graph_text, IsGoodPair, is_named, names_differ, has_target, targets_are_later, IsFirstForm, IsNoGraph};
@@ -56,7 +56,7 @@ fn read_sending<'a>(
 /// A pair of lines, and what follows it.
 fn read_pair<'a>(alloc: Global, bytes: &'a [u8]) -> Result<Option<(Pair, &'a [u8])>, AllocError>
     ensures found { IfOk result (λ o. IfSome o (λ x. IsGoodPair x.0 × (bytes.now ≡ pair_text x.0 ++ x.1.now))) }
-    ensures none { IfOk result (λ o. IfNone o ((p : Lines) (more : List ℕ) → IsGoodPair p → bytes.now ≢ pair_text p ++ more)) }
+    ensures none { IfOk result (λ o. IfNone o ((p : PairOf) (more : List ℕ) → IsGoodPair p → bytes.now ≢ pair_text p ++ more)) }
 {
     let Some((name, rest)) = read_head(bytes) else {
         return Ok(None);
@@ -76,7 +76,7 @@ fn read_pair<'a>(alloc: Global, bytes: &'a [u8]) -> Result<Option<(Pair, &'a [u8
 /// The pairs of lines that the bytes are, where they are at most 32.
 fn read_pairs(alloc: Global, bytes: &[u8]) -> Result<Option<Vec<Pair>>, AllocError>
     ensures found { IfOk result (λ o. IfSome o (λ pairs. Each IsGoodPair pairs.items × (length pairs.items ≤ 32) × (bytes.now ≡ pairs_text pairs.items))) }
-    ensures none { IfOk result (λ o. IfNone o ((pairs : List Lines) → Each IsGoodPair pairs → length pairs ≤ 32 → bytes.now ≢ pairs_text pairs)) }
+    ensures none { IfOk result (λ o. IfNone o ((pairs : List PairOf) → Each IsGoodPair pairs → length pairs ≤ 32 → bytes.now ≢ pairs_text pairs)) }
 {
     let mut pairs = Vec::new(alloc);
     let mut rest = bytes;
@@ -84,14 +84,11 @@ fn read_pairs(alloc: Global, bytes: &[u8]) -> Result<Option<Vec<Pair>>, AllocErr
         if pairs.len() == MOST_PAIRS {
             return Ok(None);
         }
-        match read_pair(alloc, rest) {
-            Err(fault) => return Err(fault),
-            Ok(None) => return Ok(None),
-            Ok(Some((pair, after))) => {
-                pairs.push(pair)?;
-                rest = after;
-            }
-        }
+        let Some((pair, after)) = read_pair(alloc, rest)? else {
+            return Ok(None);
+        };
+        pairs.push(pair)?;
+        rest = after;
     }
     Ok(Some(pairs))
 }

@@ -17,7 +17,6 @@ mod sending;
 mod stages;
 mod steps;
 mod wiring;
-mod write;
 
 pub use answer::{Answer, Input};
 pub use call::{Status, steady};

@@ -1,14 +1,12 @@
 ghost use Rattle.std.specs.Prelude.{◌≡◌, ◌≤◌, ◌<◌, ◌+◌, ◌^◌, ℕ, length, OnOk, OnErr, IsErrOf};
 ghost use Rattle.wg_words.specs.Each.{Each};
-ghost use Rattle.wg_io.specs.Causes.{Rose, Appends};
-ghost use Rattle.wg_machine.specs.declared.launch.Entry.{Entry as Line};
+ghost use Rattle.wg_io.specs.Causes.{RoseOnce, Appends, AppendsFront};
+ghost use Rattle.wg_machine.specs.declared.launch.Entry.{Entry as EntryOf};
 ghost use Rattle.wg_journal.specs.Texts.{launch_lines, done_line};
-ghost use Rattle.wg_tool.specs.Answers.{AppendsFront};
-ghost use Rattle.wg_tool.specs.Report.{report_text};
+ghost use Rattle.wg_tool.specs.Report.{complete_report};
 
-use crate::write::write_all;
 use std::alloc::Global;
-use wg_io::Sink;
+use wg_io::{Sink, write_all};
 use wg_journal::{Done, done_text, line};
 use wg_machine::{Entry, Shape};
 
@@ -26,11 +24,12 @@ fn print_lines<S: Sink>(
     entries: &[Entry],
     out: &mut S,
 ) -> Result<(), PrintFault>
-    requires { Each (λ (e : Line). e.first_out + e.outs ≤ 2 ^ 64) entries.now }
+    requires { Each (λ (e : EntryOf). e.first_out + e.outs ≤ 2 ^ 64) entries.now }
     ensures whole { OnOk result (Appends (S.written out.old) (S.written out.new) (launch_lines shape.now 0 entries.now)) }
     ensures front { OnErr result (AppendsFront (S.written out.old) (S.written out.new) (launch_lines shape.now 0 entries.now)) }
-    ensures failed { IsErrOf result PrintFault.Write → Rose (S.faults out.old) (S.faults out.new) }
-    ensures later { S.faults out.old ≤ S.faults out.new }
+    ensures same { OnOk result (S.faults out.new ≡ S.faults out.old) }
+    ensures failed { IsErrOf result PrintFault.Write → RoseOnce (S.faults out.old) (S.faults out.new) }
+    ensures memory { IsErrOf result PrintFault.Memory → S.faults out.new ≡ S.faults out.old }
 {
     for (place, entry) in entries.iter().enumerate() {
         let Ok(text) = line(alloc, entry, place as u64, shape) else {
@@ -47,7 +46,9 @@ fn print_lines<S: Sink>(
 fn print_done<S: Sink>(alloc: Global, done: &Done, out: &mut S) -> Result<(), PrintFault>
     ensures whole { OnOk result (Appends (S.written out.old) (S.written out.new) (done_line done.now)) }
     ensures front { OnErr result (AppendsFront (S.written out.old) (S.written out.new) (done_line done.now)) }
-    ensures failed { IsErrOf result PrintFault.Write → Rose (S.faults out.old) (S.faults out.new) }
+    ensures same { OnOk result (S.faults out.new ≡ S.faults out.old) }
+    ensures failed { IsErrOf result PrintFault.Write → RoseOnce (S.faults out.old) (S.faults out.new) }
+    ensures memory { IsErrOf result PrintFault.Memory → S.faults out.new ≡ S.faults out.old }
 {
     let Ok(text) = done_text(alloc, done) else {
         return Err(PrintFault::Memory);
@@ -66,13 +67,13 @@ pub fn print_report<S: Sink>(
     done: &Done,
     out: &mut S,
 ) -> Result<(), PrintFault>
-    requires { Each (λ (e : Line). e.first_out + e.outs ≤ 2 ^ 64) entries.now }
-    ensures whole { OnOk result (Appends (S.written out.old) (S.written out.new) (report_text shape.now entries.now done.now)) }
-    ensures front { OnErr result (AppendsFront (S.written out.old) (S.written out.new) (report_text shape.now entries.now done.now)) }
-    ensures failed { IsErrOf result PrintFault.Write → Rose (S.faults out.old) (S.faults out.new) }
+    requires { Each (λ (e : EntryOf). e.first_out + e.outs ≤ 2 ^ 64) entries.now }
+    ensures whole { OnOk result (Appends (S.written out.old) (S.written out.new) (complete_report shape.now entries.now done.now)) }
+    ensures front { OnErr result (AppendsFront (S.written out.old) (S.written out.new) (complete_report shape.now entries.now done.now)) }
+    ensures same { OnOk result (S.faults out.new ≡ S.faults out.old) }
+    ensures failed { IsErrOf result PrintFault.Write → RoseOnce (S.faults out.old) (S.faults out.new) }
+    ensures memory { IsErrOf result PrintFault.Memory → S.faults out.new ≡ S.faults out.old }
 {
-    match print_lines(alloc, shape, entries, out) {
-        Ok(()) => print_done(alloc, done, out),
-        Err(fault) => Err(fault),
-    }
+    print_lines(alloc, shape, entries, out)?;
+    print_done(alloc, done, out)
 }

@@ -1,7 +1,7 @@
 ghost use Rattle.std.specs.Prelude.{◌≡◌, ◌≤◌, ◌+◌, ◌^◌, IfOk};
 ghost use Rattle.wg_words.specs.Each.{Each};
-ghost use Rattle.wg_machine.specs.declared.launch.Entry.{Entry as Line};
-ghost use Rattle.wg_tool.specs.Report.{IsReport, report_text, done_in};
+ghost use Rattle.wg_machine.specs.declared.launch.Entry.{Entry as EntryOf};
+ghost use Rattle.wg_tool.specs.Report.{IsReportOfRun, complete_report, done_in};
 ghost use Rattle.wg_tool.specs.Running.{IsRunnable};
 ghost use Rattle.wg_tool.specs.Sending.{sender};
 
@@ -19,8 +19,8 @@ use wg_words::TryCopy;
 /// Runs a script to its end.
 pub fn run_script(alloc: Global, senders: &Senders, entries: Entries) -> Result<Report, AllocError>
     requires { IsRunnable senders.now.shape entries }
-    ensures report { IfOk result (λ r. IsReport senders.now.shape (sender senders.now.targets senders.now.adds) entries (report_text senders.now.shape r.entries (done_in r))) }
-    ensures outs { IfOk result (λ r. Each (λ (e : Line). e.first_out + e.outs ≤ 2 ^ 64) r.entries) }
+    ensures report { IfOk result (λ r. IsReportOfRun senders.now.shape (sender senders.now.targets senders.now.adds) entries (complete_report senders.now.shape r.entries (done_in r))) }
+    ensures outs { IfOk result (λ r. Each (λ (e : EntryOf). e.first_out + e.outs ≤ 2 ^ 64) r.entries) }
 {
     each_once();
     slots_hold_bytes();

@@ -1,16 +1,15 @@
 ghost use Rattle.std.specs.Prelude.{◌≡◌, IfOk};
-ghost use Rattle.wg_tool.specs.Answers.{Tells, Concludes};
+ghost use Rattle.wg_tool.specs.Answers.{WritesText, Concludes};
 ghost use Rattle.wg_tool.specs.Headline.{read_fault_line, too_long_line};
 ghost use Rattle.wg_tool.specs.Stages.{FaultSays};
 
 use crate::answer::{Answer, Input};
-use crate::write::write_all;
 use std::alloc::{AllocError, Global};
-use wg_io::{FileFault, Sink};
+use wg_io::{FileFault, Sink, write_all};
 
 /// Prints the text of an answer, and gives the answer.
 pub fn say<S: Sink>(out: &mut S, text: &[u8], answer: Answer) -> Answer
-    ensures { Tells answer text.now (S.written out.old) (S.written out.new) (S.faults out.old) (S.faults out.new) result }
+    ensures { WritesText answer text.now (S.written out.old) (S.written out.new) (S.faults out.old) (S.faults out.new) result }
 {
     match write_all(out, text) {
         Ok(()) => answer,

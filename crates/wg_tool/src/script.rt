@@ -1,9 +1,9 @@
 ghost use Rattle.std.specs.Prelude.{◌≡◌, ◌≢◌, ◌<◌, ◌≤◌, ◌^◌, ◌++◌, List, ℕ, length, IsTrue, IfOk, IfSome, IfNone};
 ghost use Rattle.wg_words.specs.Each.{Each};
-ghost use Rattle.wg_machine.specs.declared.launch.Sent.{Sent as Record};
+ghost use Rattle.wg_machine.specs.declared.launch.Sent.{Sent as SentOf};
 ghost use Rattle.wg_tool.specs.Parts.{is_name};
 ghost use Rattle.wg_tool.specs.FirstForm.{IsFirstForm};
-ghost use Rattle.wg_tool.specs.Script.{entry_line, name_at, line_of, entry_lines, script_text, IsGoodEntry, IsScript, IsNoScript};
+ghost use Rattle.wg_tool.specs.Script.{entry_line, name_at, line_of, entry_lines, script_text, IsFormEntry, IsFormScript, IsNoScript};
 ghost use Rattle.wg_tool.specs.Wiring.{targets_of};
 
 use crate::pair::Pair;
@@ -59,8 +59,8 @@ fn read_entry<'a>(
 ) -> Result<Option<(Sent, &'a [u8])>, AllocError>
     requires form { IsFirstForm pairs.now }
     requires targets { targets.now ≡ targets_of pairs.now }
-    ensures found { IfOk result (λ o. IfSome o (λ x. IsGoodEntry pairs.now x.0 × (bytes.now ≡ line_of pairs.now x.0 ++ x.1.now))) }
-    ensures none { IfOk result (λ o. IfNone o ((s : Record) (more : List ℕ) → IsGoodEntry pairs.now s → bytes.now ≢ line_of pairs.now s ++ more)) }
+    ensures found { IfOk result (λ o. IfSome o (λ x. IsFormEntry pairs.now x.0 × (bytes.now ≡ line_of pairs.now x.0 ++ x.1.now))) }
+    ensures none { IfOk result (λ o. IfNone o ((s : SentOf) (more : List ℕ) → IsFormEntry pairs.now s → bytes.now ≢ line_of pairs.now s ++ more)) }
 {
     let Some((name, word, rest)) = read_line(alloc, bytes)? else {
         return Ok(None);
@@ -85,7 +85,7 @@ pub fn read_script(
 ) -> Result<Option<Entries>, AllocError>
     requires form { IsFirstForm pairs.now }
     requires targets { targets.now ≡ targets_of pairs.now }
-    ensures found { IfOk result (λ o. IfSome o (λ entries. IsScript pairs.now entries × (text.now ≡ script_text pairs.now entries))) }
+    ensures found { IfOk result (λ o. IfSome o (λ entries. IsFormScript pairs.now entries × (text.now ≡ script_text pairs.now entries))) }
     ensures none { IfOk result (λ o. IfNone o (IsNoScript pairs.now text.now)) }
 {
     let Some(mut rest) = strip(text, SCRIPT_LINE) else {
@@ -96,14 +96,11 @@ pub fn read_script(
         if entries.len() == MOST_ENTRIES {
             return Ok(None);
         }
-        match read_entry(alloc, pairs, targets, rest) {
-            Err(fault) => return Err(fault),
-            Ok(None) => return Ok(None),
-            Ok(Some((entry, after))) => {
-                entries.push(entry)?;
-                rest = after;
-            }
-        }
+        let Some((entry, after)) = read_entry(alloc, pairs, targets, rest)? else {
+            return Ok(None);
+        };
+        entries.push(entry)?;
+        rest = after;
     }
     Ok(Some(Entries::from_vec(entries)))
 }

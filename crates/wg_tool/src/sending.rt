@@ -1,5 +1,5 @@
 ghost use Rattle.std.specs.Prelude.{◌≡◌, IfOk, slice_index};
-ghost use Rattle.wg_tool.specs.Sending.{word_of, target_at, sent_of, add_of, adds_of};
+ghost use Rattle.wg_tool.specs.Sending.{word_of_launch, target_at, sent_of, add_of, adds_of};
 
 use crate::pair::{Pair, Sends};
 use std::alloc::{AllocError, Global};
@@ -7,8 +7,8 @@ use wg_machine::{Launch, Sent, SentList, Targets};
 use wg_words::Words;
 
 /// The first word of a launch's first record.
-fn word_of(launch: &Launch) -> u32
-    ensures { result ≡ word_of launch.now }
+fn word_of_launch(launch: &Launch) -> u32
+    ensures { result ≡ word_of_launch launch.now }
 {
     match launch.records.get(0) {
         None => 0,
@@ -51,7 +51,7 @@ pub fn sent_of(
     let Some(target) = target_at(targets.as_slice(), unit) else {
         return Ok(sent);
     };
-    let word = word_of(launch).wrapping_add(add_at(adds.as_slice(), unit));
+    let word = word_of_launch(launch).wrapping_add(add_at(adds.as_slice(), unit));
     sent.push(Sent {
         unit: target,
         words: Words::from_slice(alloc, &[word])?,

@@ -1,8 +1,8 @@
 ghost use Rattle.std.specs.Prelude.{◌≡◌, [], List, length, OnOk};
-ghost use Rattle.wg_machine.specs.declared.launch.Sent.{Sent as Record};
+ghost use Rattle.wg_machine.specs.declared.launch.Sent.{Sent as SentOf};
 ghost use Rattle.wg_standing.specs.Standing.{StandsFor};
 ghost use Rattle.wg_standing.specs.Idle.{IsIdle};
-ghost use Rattle.wg_tool.specs.Running.{KeepsPlan, IsReady, IsOnlyOut, RanOne, StandsShort};
+ghost use Rattle.wg_tool.specs.Running.{KeepsPlan, IsBetweenLaunches, IsOnlyOut, RanOne, StandsShort};
 ghost use Rattle.wg_tool.specs.Sending.{sender};
 ghost use Rattle.wg_tool.specs.declared.limits.TheConstants.{LAUNCHES as MOST};
 
@@ -22,7 +22,7 @@ enum Stepped {
 fn settle(senders: &Senders, core: &mut Core, ticket: u64) -> Result<(), AllocError>
     requires graph { senders.now.shape ≡ core.old.shape }
     requires out { IsOnlyOut core.old ticket }
-    ensures stands { (script : List Record) → StandsFor (sender senders.now.targets senders.now.adds) script [] core.old → StandsFor (sender senders.now.targets senders.now.adds) script [] core.new }
+    ensures stands { (script : List SentOf) → StandsFor (sender senders.now.targets senders.now.adds) script [] core.old → StandsFor (sender senders.now.targets senders.now.adds) script [] core.new }
     ensures plan { KeepsPlan core.old core.new }
     ensures ran { OnOk result (RanOne core.old core.new) }
 {
@@ -38,9 +38,9 @@ fn settle(senders: &Senders, core: &mut Core, ticket: u64) -> Result<(), AllocEr
 fn step(senders: &Senders, core: &mut Core) -> Stepped
     requires graph { senders.now.shape ≡ core.old.shape }
     requires limit { core.old.limits.launches ≡ MOST }
-    requires ready { IsReady core.old }
+    requires ready { IsBetweenLaunches core.old }
     requires short { StandsShort (sender senders.now.targets senders.now.adds) core.old }
-    ensures stands { (script : List Record) → StandsFor (sender senders.now.targets senders.now.adds) script [] core.old → StandsFor (sender senders.now.targets senders.now.adds) script [] core.new }
+    ensures stands { (script : List SentOf) → StandsFor (sender senders.now.targets senders.now.adds) script [] core.old → StandsFor (sender senders.now.targets senders.now.adds) script [] core.new }
     ensures plan { KeepsPlan core.old core.new }
     ensures ran { result ≡ Stepped.Ran → RanOne core.old core.new }
     ensures idle { result ≡ Stepped.Idle → IsIdle core.new }
@@ -60,9 +60,9 @@ fn step(senders: &Senders, core: &mut Core) -> Stepped
 pub fn run_all(senders: &Senders, core: &mut Core) -> Result<(), AllocError>
     requires graph { senders.now.shape ≡ core.old.shape }
     requires limit { core.old.limits.launches ≡ MOST }
-    requires ready { IsReady core.old }
+    requires ready { IsBetweenLaunches core.old }
     requires short { StandsShort (sender senders.now.targets senders.now.adds) core.old }
-    ensures stands { (script : List Record) → StandsFor (sender senders.now.targets senders.now.adds) script [] core.old → StandsFor (sender senders.now.targets senders.now.adds) script [] core.new }
+    ensures stands { (script : List SentOf) → StandsFor (sender senders.now.targets senders.now.adds) script [] core.old → StandsFor (sender senders.now.targets senders.now.adds) script [] core.new }
     ensures plan { KeepsPlan core.old core.new }
     ensures idle { OnOk result (IsIdle core.new) }
 {

@@ -1,9 +1,9 @@
 ghost use Rattle.std.specs.Prelude.{◌≡◌, ◌+◌, ◌<◌, ◌≤◌, ◌^◌, ℕ, List, length, Option, map, IfOk};
 ghost use Rattle.std.specs.List.{list_any, position};
 ghost use Rattle.wg_machine.specs.GoodShape.{IsGoodShape};
-ghost use Rattle.wg_tool.specs.declared.pair.Pair.{Pair as Lines};
+ghost use Rattle.wg_tool.specs.declared.pair.Pair.{Pair as PairOf};
 ghost use Rattle.wg_tool.specs.FirstForm.{is_named, IsFirstForm};
-ghost use Rattle.wg_machine.specs.declared.shape.Unit.{Unit as Node};
+ghost use Rattle.wg_machine.specs.declared.shape.Unit.{Unit as UnitOf};
 ghost use Rattle.wg_machine.specs.Need.{is_target, greatest};
 ghost use Rattle.wg_machine.specs.Unrolling.{sends_to, depth_of};
 ghost use Rattle.wg_tool.specs.Wiring.{target_in, targets_of, is_free, budgets_of, outputs_of, unit_of, units_of, node_of, shape_of};
@@ -181,5 +181,5 @@ pub fn shape_of(alloc: Global, pairs: &[Pair], targets: &[Option<u32>]) -> Resul
 
 /// The shape of each graph of the first form is good.
 pub fn shapes_are_good()
-    ensures { (pairs : List Lines) → IsFirstForm pairs → IsGoodShape (shape_of pairs) }
+    ensures { (pairs : List PairOf) → IsFirstForm pairs → IsGoodShape (shape_of pairs) }
 {}

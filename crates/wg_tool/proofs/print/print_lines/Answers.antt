@@ -1,4 +1,4 @@
-use Rattle.std.proofs.Common.{◌≡◌, ◌++◌, List, ℕ, ◌∙◌, arith, subst}
+use Rattle.std.proofs.Common.{◌≡◌, ◌++◌, List, ℕ, ◌∙◌, subst}
 use Rattle.wg_io.specs.Causes.{Appends}
 use Rattle.wg_journal.specs.Texts.{launch_line}
 use Rattle.wg_tool.proofs.PrintLemmas.{lines_step, lines_front}
@@ -17,7 +17,7 @@ loop-place-preserved g c =
     let e = c.index-entries-place.result in
     let line : c.as_slice.result.now ≡ launch_line c.args.shape.now c.loop-place.place e = c.as_slice.ensures.value ∙ c.in-Ok.ensures in
     record {
-      later = omega (arith, c.loop-place.invariant.later, c.in-Ok-write_all.ensures.later);
+      same = c.in-Ok-write_all.ensures.same ∙ c.loop-place.invariant.same;
       front = (
         k.0 ++ launch_line c.args.shape.now c.loop-place.place e,
         lines_step c.args.shape.now c.args.entries.now c.loop-place.place k.0 e c.loop-place-test.true c.index-entries-place.is k.1,

@@ -8,7 +8,7 @@ use Rattle.wg_machine.specs.GoodShape.{IsGoodShape}
 use Rattle.wg_machine.specs.LaunchMeaning.{Arrives}
 use Rattle.wg_standing.specs.Core.{CoreView}
 use Rattle.wg_standing.specs.Standing.{StandsFor}
-use Rattle.wg_tool.specs.Report.{IsReport, report_text, done_in}
+use Rattle.wg_tool.specs.Report.{IsReportOfRun, complete_report, done_in}
 use Rattle.wg_tool.specs.Running.{IsShort}
 use Rattle.wg_tool.specs.SenderLaws.{IsWired}
 use Rattle.wg_tool.specs.Sending.{sender}
@@ -61,7 +61,7 @@ returns-clause-report c =
     let r = c.finish.result in
     let f = c.finish.ensures in
     let report = report_is made c.args.entries core r c.each_once.ensures c.slots_hold_bytes.ensures c.something_has_room.ensures c.idle_is_complete.ensures good stands width turns c.in_ok-run_all.ensures.idle f.entries f.records f.denied f.peak f.bytes in
-    subst (λ (s : Shape). IsReport s made c.args.entries (report_text s r.entries (done_in r))) shape report
+    subst (λ (s : Shape). IsReportOfRun s made c.args.entries (complete_report s r.entries (done_in r))) shape report
 
 pub returns-clause-outs : goal.returns-clause-outs
 returns-clause-outs c = outs_fit c.finish.result.records c.finish.result.entries c.finish.ensures.records_fit c.finish.ensures.outs

@@ -9,7 +9,7 @@ use Rattle.wg_tool.specs.FirstForm.{IsNoGraph}
 use Rattle.wg_tool.specs.Headline.{FilesView, RunSays, IsGraph}
 use Rattle.wg_tool.specs.Stages.{FileSays, FaultSays}
 use Rattle.wg_tool.proofs.AnswerLemmas.{told, lifted}
-use Rattle.wg_tool.proofs.FileLemmas.{graph_read, graph_fault, told_once, told_more, FaultShows, ReadOnce}
+use Rattle.wg_tool.proofs.FileLemmas.{graph_read, graph_fault, told_more, FaultShows, ReadOnce}
 use Rattle.wg_tool.proofs.stages.answer_run.Goals as goal
 
 pub returns-in-Err : goal.returns-in-Err
@@ -26,7 +26,7 @@ returns-in-Ok-None g c =
     let new : FilesView = record { told = g.F.Files.told c.read.new.self; faults = g.F.Files.faults c.read.new.self; taken = g.F.Files.taken c.read.new.self } in
     let same : IfSome (old.told c.args.graph.now) (λ (b : List ℕ). c.as_slice.result.now ≡ b) = told_more (old.told c.args.graph.now) (λ (b : List ℕ). c.in-Ok.bytes.items ≡ b) (λ (b : List ℕ). c.as_slice.result.now ≡ b) (λ b e. c.as_slice.ensures.value ∙ e) c.in-Ok.ensures.bytes in
     let none = rw c.in-Ok-None.field-0-is at c.in-Ok-None.ensures.none in
-    told (RunSays old new c.args.graph.now c.args.script.now) Refused REFUSED.now (g.S.Sink.written c.args.out.now) (g.S.Sink.written c.say.new.out) (g.S.Sink.faults c.args.out.now) (g.S.Sink.faults c.say.new.out) c.say.result tt (told_once (old.told c.args.graph.now) c.as_slice.result.now IsNoGraph same none, refl) c.say.ensures
+    told (RunSays old new c.args.graph.now c.args.script.now) Refused REFUSED.now (g.S.Sink.written c.args.out.now) (g.S.Sink.written c.say.new.out) (g.S.Sink.faults c.args.out.now) (g.S.Sink.faults c.say.new.out) c.say.result tt ((c.as_slice.result.now, same, none), refl) c.say.ensures
 
 pub returns : goal.returns
 returns g c =

@@ -1,7 +1,7 @@
 use Rattle.std.proofs.Common.{◌-◌, [], List, length}
 use Rattle.wg_machine.specs.declared.launch.Sent.{Sent}
 use Rattle.wg_standing.specs.Standing.{StandsFor}
-use Rattle.wg_tool.specs.Running.{KeepsPlan, IsReady, StandsShort}
+use Rattle.wg_tool.specs.Running.{KeepsPlan, IsBetweenLaunches, StandsShort}
 use Rattle.wg_tool.specs.Sending.{sender}
 use Rattle.wg_tool.specs.declared.limits.TheConstants.{LAUNCHES}
 use Rattle.wg_tool.proofs.steps.run_all.Given as goal
@@ -13,7 +13,7 @@ invariant-loop l =
       stands : (script : List Sent) → StandsFor (sender l.senders.targets l.senders.adds) script [] l.fn.core → StandsFor (sender l.senders.targets l.senders.adds) script [] l.core;
       short : StandsShort (sender l.senders.targets l.senders.adds) l.core;
       plan : KeepsPlan l.fn.core l.core;
-      ready : IsReady l.core;
+      ready : IsBetweenLaunches l.core;
     }
 
 -- the launches that are left

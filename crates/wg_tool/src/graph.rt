@@ -1,7 +1,6 @@
 ghost use Rattle.std.specs.Prelude.{◌≡◌, ◌≢◌, ◌<◌, ◌≤◌, ◌^◌, ◌++◌, List, ℕ, length, Option, IsTrue, IfOk, IfSome, IfNone};
 ghost use Rattle.std.specs.List.{list_any};
 ghost use Rattle.wg_tool.specs.declared.pair.Pair.{Pair as PairOf};
-ghost use Rattle.wg_tool.specs.declared.pair.Sends.{Sends as SendsOf};
 ghost use Rattle.wg_words.specs.Each.{Each};
 ghost use Rattle.wg_tool.specs.Parts.{is_name, ends_name};
 ghost use Rattle.wg_tool.specs.FirstForm.{head_text, target_text, sending_text, pair_text, pairs_text, graph_text, IsGoodPair, is_named, names_differ, has_target, targets_are_later, IsFirstForm, IsNoGraph};

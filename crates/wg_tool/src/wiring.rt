@@ -3,7 +3,6 @@ ghost use Rattle.std.specs.List.{list_any, position};
 ghost use Rattle.wg_machine.specs.GoodShape.{IsGoodShape};
 ghost use Rattle.wg_tool.specs.declared.pair.Pair.{Pair as PairOf};
 ghost use Rattle.wg_tool.specs.FirstForm.{is_named, IsFirstForm};
-ghost use Rattle.wg_machine.specs.declared.shape.Unit.{Unit as UnitOf};
 ghost use Rattle.wg_machine.specs.Need.{is_target, greatest};
 ghost use Rattle.wg_machine.specs.Unrolling.{sends_to, depth_of};
 ghost use Rattle.wg_tool.specs.Wiring.{target_in, targets_of, is_free, budgets_of, outputs_of, unit_of, units_of, node_of, shape_of};

@@ -2,5 +2,6 @@
 #![tactic(auto)]
 
 mod picker;
+mod row;
 
 pub use picker::Picker;

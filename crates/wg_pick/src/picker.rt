@@ -1,5 +1,6 @@
-ghost use Rattle.std.specs.Prelude.{◌≡◌, ℕ, ◌<◌, ◌^◌, ◌↔◌, IsTrue, IfOk, IfSome, true, false, length, slice_set};
+ghost use Rattle.std.specs.Prelude.{◌≡◌, ℕ, ◌<◌, ◌^◌, IfOk, IfSome, true, false, length, slice_set};
 
+use crate::row::{depths_of, next_flag, no_flags, order_of, places_of, set_flag};
 use std::alloc::{AllocError, Global};
 use std::marker::Model;
 use wg_machine::Shape;
@@ -8,22 +9,28 @@ use wg_machine::Shape;
 #[derive(Debug, Drop)]
 pub struct Picker {
     depths: Vec<u32>,
-    waits: Vec<bool>,
+    /// The units in the order of picking.
+    order: Vec<u32>,
+    /// By unit: its place in the order.
+    places: Vec<u32>,
+    /// By place, 64 to a word: whether its unit waits.
+    flags: Vec<u64>,
 }
 
 impl Model for Picker {
-    ghost use Rattle.std.specs.Prelude.{◌≡◌, ◌<◌, ◌^◌, vec_len};
+    ghost use Rattle.std.specs.Prelude.{map};
     ghost use Rattle.wg_pick.specs.Order.{Waiting};
+    ghost use Rattle.wg_pick.specs.Row.{is_flagged, IsRow};
 
     ghost Value = { Waiting };
 
-    ghost view = { λ p. record { depths = p.depths.items; waits = p.waits.items } };
+    ghost view = { λ p. record { depths = p.depths.items; waits = map (is_flagged p.flags.items) p.places.items } };
 
-    ghost invariant = { λ p. (vec_len p.depths ≡ vec_len p.waits) × (vec_len p.waits < 2 ^ 32) };
+    ghost invariant = { λ p. IsRow p.depths.items p.order.items p.places.items p.flags.items };
 }
 
 impl Picker {
-    ghost use Rattle.wg_pick.specs.Order.{none_waits, IsWaiting, Precedes, IsDeeper};
+    ghost use Rattle.wg_pick.specs.Order.{none_waits, IsWaiting, Precedes};
 
     /// The units of a shape, of which none waits. The later calls take no memory.
     pub fn new(alloc: Global, shape: &Shape) -> Result<Picker, AllocError>
@@ -31,9 +38,16 @@ impl Picker {
         ensures { IfOk result (λ picker. picker ≡ none_waits shape.now) }
     {
         let units = shape.units.as_slice();
-        let depths = units.iter().map(|unit| unit.depth).collect(alloc)?;
-        let waits = vec![in alloc; false; units.len()]?;
-        Ok(Picker { depths, waits })
+        let depths = depths_of(alloc, units)?;
+        let order = order_of(alloc, &depths)?;
+        let places = places_of(alloc, &order)?;
+        let flags = no_flags(alloc, units.len())?;
+        Ok(Picker {
+            depths,
+            order,
+            places,
+            flags,
+        })
     }
 
     /// Says whether a unit waits.
@@ -41,12 +55,13 @@ impl Picker {
         requires { unit < length self.old.waits }
         ensures { self.new ≡ record self.old { waits = slice_set self.old.waits unit waits } }
     {
-        self.waits[unit as usize] = waits;
+        let place = self.places[unit as usize];
+        set_flag(&mut self.flags, place, waits);
     }
 
     /// The deepest unit that waits and has room, the least of them; none where there is none.
     ///
-    /// `room` is asked of waiting units alone.
+    /// `room` is asked of waiting units alone, in the order of picking.
     pub fn pick<F: Fn(u32) -> bool>(&self, room: F) -> Option<u32>
         requires { (u : ℕ) → IsWaiting self.now u → F.pre room u }
         ensures waits { IfSome result (IsWaiting self.now) }
@@ -55,25 +70,15 @@ impl Picker {
         // Each waiting unit that comes before the answer has no room; where there is none, each.
         ensures first { (u : ℕ) → IsWaiting self.now u → Precedes self.now u result → F.post room u false }
     {
-        let mut best = None;
-        for (unit, waits) in self.waits.iter().enumerate() {
-            if *waits && self.is_deeper(unit, best) && room(unit as u32) {
-                best = Some(unit as u32);
+        let mut from = 0;
+        while let Some(place) = next_flag(&self.flags, from) {
+            let unit = self.order[place];
+            if room(unit) {
+                return Some(unit);
             }
+            from = place + 1;
         }
-        best
-    }
-
-    /// Whether a unit is deeper than the best so far.
-    fn is_deeper(&self, unit: usize, best: Option<u32>) -> bool
-        requires unit { unit < length self.now.depths }
-        requires best { IfSome best (λ b. b < length self.now.depths) }
-        ensures { IsTrue result ↔ IsDeeper self.now unit best }
-    {
-        match best {
-            None => true,
-            Some(best) => self.depths[best as usize] < self.depths[unit],
-        }
+        None
     }
 }
 

@@ -1,0 +1,6 @@
+pub mod Alike
+pub mod Bounds
+pub mod Calls
+pub mod Layers
+pub mod NeverWrong
+pub mod PartsAlike

@@ -1,5 +1,5 @@
 -- What a launch of node code does: its parts over its lanes, from groupshared words, registers and new records of zeros. Own.
-use Rattle.std.specs.Prelude.{ℕ, ◌-◌, Bool, true, false, List, [], ◌∷◌, ◌++◌, replicate, slice_get, Option, Some, None}
+use Rattle.std.specs.Prelude.{ℕ, Bool, true, List, [], ◌∷◌, ◌++◌, length, replicate, slice_get, Option, Some, None}
 use Rattle.wg_machine.specs.Buffers.{Buffers}
 use Rattle.wg_machine.specs.LaunchMeaning.{Meaning, Outcome}
 use Rattle.wg_machine.specs.declared.launch.Launch.{Launch}
@@ -24,6 +24,7 @@ numbers_of group threads lane = group ++ coordinates_of threads lane ++ dispatch
 abbrev pub around_of : RawCode → NodeCode → Node → Launch → ℕ → Around
 around_of code node unit launch lane = record {
   functions = code.functions;
+  buffers = length code.shape.buffers;
   handles = node.handles;
   outputs = unit.outputs;
   level = unit.level;

@@ -1,5 +1,5 @@
 -- Operations one after another, loops and calls. Each loop body entered takes one turn. Own.
-use Rattle.std.specs.Prelude.{ℕ, zero, suc, ◌&&◌, Bool, true, false, if◌then◌else◌, List, [], ◌∷◌, Option, Some, None}
+use Rattle.std.specs.Prelude.{ℕ, zero, suc, if◌then◌else◌, List, [], ◌∷◌, Option, Some, None}
 use Rattle.wg_words.specs.Truth.{is_true}
 use Rattle.wg_state.specs.Turns.{Action, Ending, Spent, Done, ◌>>=◌, ◌>>◌, pure, read, turn}
 use Rattle.wg_state.specs.declared.world.World.{World}

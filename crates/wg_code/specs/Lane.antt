@@ -6,10 +6,11 @@ use Rattle.wg_state.specs.declared.world.World.{World}
 use Rattle.wg_code.specs.declared.code.Function.{Function}
 use Rattle.wg_code.specs.declared.code.Handle.{Handle}
 
--- what stays the same while a lane's code runs: the functions, the node's handles, its unit's outputs and level, the lane, its ten
--- system values, and whether the launch is the last of a shared record
+-- what stays the same while a lane's code runs: the functions, how many buffers the graph has, the node's handles, its unit's outputs and
+-- level, the lane, its ten system values, and whether the launch is the last of a shared record
 pub record Around : Type 0 where
   pub functions : List Function
+  pub buffers : ℕ
   pub handles : List Handle
   pub outputs : List Output
   pub level : ℕ

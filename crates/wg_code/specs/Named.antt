@@ -1,5 +1,5 @@
 -- Whether all that an operation names is there: registers, words of a frame, buffers, outputs, handles, functions, and numbers of operators.
-use Rattle.std.specs.Prelude.{ℕ, ◌+◌, ◌^◌, Bool, true, false, ◌&&◌, nat_lt, nat_le, if◌then◌else◌, ◌==◌, List, [], ◌∷◌, length, slice_get, Option, Some, None}
+use Rattle.std.specs.Prelude.{ℕ, ◌+◌, Bool, true, false, ◌&&◌, nat_lt, nat_le, if◌then◌else◌, ◌==◌, List, [], ◌∷◌, length, slice_get, Option, Some, None}
 use Rattle.std.specs.List.{list_all}
 use Rattle.wg_code.specs.declared.op.Op.TheOpen.{Op-F}
 use Rattle.wg_code.specs.declared.code.Function.{Function}

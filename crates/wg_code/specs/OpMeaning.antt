@@ -1,5 +1,5 @@
 -- What operations do. Where `strict`, one that names what is not there goes wrong; else it reads 0 there and writes nothing. Own.
-use Rattle.std.specs.Prelude.{ℕ, ◌+◌, ◌%◌, ◌/◌, ◌^◌, ◌==◌, ◌&&◌, not, Bool, true, false, if◌then◌else◌, List, [], ◌∷◌, map, length, slice_index, slice_get, Option, Some, None, is_some}
+use Rattle.std.specs.Prelude.{ℕ, ◌+◌, ◌%◌, ◌/◌, ◌^◌, ◌==◌, ◌&&◌, not, Bool, if◌then◌else◌, List, map, length, slice_index, slice_get, Some, None, is_some}
 use Rattle.wg_words.specs.Truth.{truth}
 use Rattle.wg_machine.specs.Buffers.{buffer_at, word_at, with_word, exchanged}
 use Rattle.wg_machine.specs.declared.memory.Atomic.{Atomic}
@@ -9,7 +9,7 @@ use Rattle.wg_state.specs.Turns.{Action, Done, ◌>>=◌, ◌>>◌, pure, read, 
 use Rattle.wg_code.specs.declared.op.Op.{Op, fold-Op}
 use Rattle.wg_code.specs.declared.op.Op.TheOpen.{Op-F}
 use Rattle.wg_code.specs.Flow.{Callees, if_set, in_order, loop, call}
-use Rattle.wg_code.specs.Lane.{Around, Site, Exit, Through, Out, Again, Wrong, get, put, puts, changes, ranged, with_ranged}
+use Rattle.wg_code.specs.Lane.{Around, Site, Exit, Out, Again, Wrong, get, put, puts, changes, ranged, with_ranged}
 use Rattle.wg_code.specs.Named.{Tables, names_there}
 use Rattle.wg_code.specs.Operators.{unary, binary, half, is_comparison, paired}
 use Rattle.wg_code.specs.Records.{in_world, with_buffers, with_input, output_in, grant_of, record_words, with_record}
@@ -135,12 +135,12 @@ does around callees (Op-F.Half op d a b) = do
   puts d (half op x y)
 does around callees (Op-F.Last d) = puts d (truth around.last)
 
--- the tables of a body where it runs
-abbrev pub tables_at : Around → Site → Tables
-tables_at around f = record {
-  registers = length f.registers;
-  shared = length f.shared;
-  buffers = length f.world.buffers;
+-- the tables of a body with so many registers and groupshared words
+abbrev pub tables_of : Around → ℕ → ℕ → Tables
+tables_of around registers shared = record {
+  registers = registers;
+  shared = shared;
+  buffers = around.buffers;
   outputs = length around.outputs;
   handles = around.handles;
   functions = around.functions;
@@ -148,7 +148,7 @@ tables_at around f = record {
 
 abbrev pub op_step : Bool → Around → Callees → Op-F (Action Site Exit) → Action Site Exit
 op_step strict around callees op = λ f t.
-    if strict && not (names_there (tables_at around f) op) then Done Wrong f t else does around callees op f t
+    if strict && not (names_there (tables_of around (length f.registers) (length f.shared)) op) then Done Wrong f t else does around callees op f t
 
 abbrev pub op_does : Bool → Around → Callees → Op → Action Site Exit
 op_does strict around callees = fold-Op (Action Site Exit) (op_step strict around callees)

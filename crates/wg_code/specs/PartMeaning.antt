@@ -1,5 +1,5 @@
 -- What the parts of a node's code do over its lanes. Own.
-use Rattle.std.specs.Prelude.{ℕ, suc, ◌&&◌, not, nat_lt, Bool, true, false, if◌then◌else◌, List, [], ◌∷◌, map, length, slice_index, Option, Some, None, unwrap_or}
+use Rattle.std.specs.Prelude.{ℕ, suc, ◌&&◌, not, nat_lt, Bool, if◌then◌else◌, List, [], ◌∷◌, map, length, slice_index, Option, Some, None}
 use Rattle.wg_words.specs.Truth.{is_true}
 use Rattle.wg_state.specs.Turns.{Action, Ending, Spent, Done, ◌>>=◌, pure}
 use Rattle.wg_code.specs.declared.code.Part.{Part, fold-Part}

@@ -1,5 +1,5 @@
 -- The new records of a lane's handles, and changes of what the lanes share. Own.
-use Rattle.std.specs.Prelude.{ℕ, Bool, false, if◌then◌else◌, List, [], ◌∷◌, slice_get, slice_set, Option, Some, None}
+use Rattle.std.specs.Prelude.{ℕ, if◌then◌else◌, List, [], slice_get, slice_set, Option, Some, None}
 use Rattle.wg_machine.specs.Buffers.{Buffers, with_word}
 use Rattle.wg_state.specs.Requests.{latest}
 use Rattle.wg_state.specs.WordLists.{list_at}

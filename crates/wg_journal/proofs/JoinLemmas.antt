@@ -9,7 +9,7 @@ use Rattle.std.proofs.lemmas.Bool.Decides.{nat_tests}
 use Rattle.std.proofs.lemmas.List.{append-nil}
 use Rattle.wg_words.specs.Each.{Each}
 use Rattle.wg_text.specs.Cut.{cut}
-use Rattle.wg_journal.specs.Reading.{fields_of}
+use Rattle.wg_journal.specs.Reading.{split_fields}
 use Rattle.wg_journal.specs.Texts.{all_spaced}
 use Rattle.wg_journal.proofs.FieldLemmas.{fields_some, some_is, with_front, front_none}
 use Rattle.wg_journal.proofs.NumberLemmas.{Visible}
@@ -32,22 +32,22 @@ joined_onto c [] some = absurd (some refl)
 joined_onto c (f ∷ fields) some = refl
 
 -- a line is its fields
-pub joined_fields : (line : List ℕ) → joined (fields_of line) ≡ line
+pub joined_fields : (line : List ℕ) → joined (split_fields line) ≡ line
 joined_fields [] = refl
 joined_fields (c ∷ line) = choice (c == 32) refl (joined_fields line)
   where
-    choice : (b : Bool) → (c == 32) ≡ b → joined (fields_of line) ≡ line → joined (cond b ([] ∷ fields_of line) (onto_first c (fields_of line))) ≡ c ∷ line
-    choice true t ih = spread_joined (fields_of line) (fields_some line) ∙ (ap (λ (d : ℕ). d ∷ joined (fields_of line)) (sym (eqb-true c 32 t)) ∙ ap (λ (r : List ℕ). c ∷ r) ih)
-    choice false t ih = joined_onto c (fields_of line) (fields_some line) ∙ ap (λ (r : List ℕ). c ∷ r) ih
+    choice : (b : Bool) → (c == 32) ≡ b → joined (split_fields line) ≡ line → joined (cond b ([] ∷ split_fields line) (onto_first c (split_fields line))) ≡ c ∷ line
+    choice true t ih = spread_joined (split_fields line) (fields_some line) ∙ (ap (λ (d : ℕ). d ∷ joined (split_fields line)) (sym (eqb-true c 32 t)) ∙ ap (λ (r : List ℕ). c ∷ r) ih)
+    choice false t ih = joined_onto c (split_fields line) (fields_some line) ∙ ap (λ (r : List ℕ). c ∷ r) ih
 
-field_then : (f rest : List ℕ) → Visible f → fields_of (f ++ 32 ∷ rest) ≡ f ∷ fields_of rest
+field_then : (f rest : List ℕ) → Visible f → split_fields (f ++ 32 ∷ rest) ≡ f ∷ split_fields rest
 field_then [] rest v = refl
 field_then (c ∷ f) rest v =
     let low : 33 ≤ c = v.0 in
     let test : (c == 32) ≡ false = grind (arith, nat_tests) in
     rw (test, field_then f rest v.1) refl
 
-field_last : (f : List ℕ) → Visible f → fields_of f ≡ f ∷ []
+field_last : (f : List ℕ) → Visible f → split_fields f ≡ f ∷ []
 field_last [] v = refl
 field_last (c ∷ f) v =
     let low : 33 ≤ c = v.0 in
@@ -55,8 +55,8 @@ field_last (c ∷ f) v =
     rw (test, field_last f v.1) refl
 
 -- and fields without spaces are those of their line
-pub fields_joined : (f : List ℕ) (fields : List (List ℕ)) → Visible f → Each Visible fields → fields_of (joined (f ∷ fields)) ≡ f ∷ fields
-fields_joined f [] v vs = ap fields_of (append-nil f) ∙ field_last f v
+pub fields_joined : (f : List ℕ) (fields : List (List ℕ)) → Visible f → Each Visible fields → split_fields (joined (f ∷ fields)) ≡ f ∷ fields
+fields_joined f [] v vs = ap split_fields (append-nil f) ∙ field_last f v
 fields_joined f (g ∷ fields) v vs = field_then f (g ++ spread fields) v ∙ ap (λ (r : List (List ℕ)). f ∷ r) (fields_joined g fields vs.0 vs.1)
 
 cut_then : (f rest : List ℕ) → Visible f → cut (λ c. c == 10) (f ++ rest) ≡ with_front f (cut (λ c. c == 10) rest)

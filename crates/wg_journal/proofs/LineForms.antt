@@ -12,11 +12,11 @@ use Rattle.wg_machine.specs.declared.journal.Stop.TheVariants.{Turns, Launches}
 use Rattle.wg_journal.specs.declared.lines.Line.{Line}
 use Rattle.wg_journal.specs.declared.lines.Line.TheVariants as lines
 use Rattle.wg_journal.specs.Report.{IsGoodEntry, IsGoodDone, IsGoodBuffer, IsGoodStop}
-use Rattle.wg_journal.specs.Texts.{all_spaced, unit_at, launch_line, done_line, buffer_line, stop_line}
+use Rattle.wg_journal.specs.Texts.{all_spaced, unit_label, launch_line, done_line, buffer_line, stop_line}
 use Rattle.wg_journal.proofs.JoinLemmas.{spread, joined, decimals, spread_append, spread_decimals}
 
 abbrev pub taken_fields : Shape → ℕ → List ℕ → List ℕ → List (List ℕ) → List (List ℕ)
-taken_fields shape unit group inputs rest = unit_at shape unit ∷ codes "g" ∷ (decimals group ++ codes "in" ∷ (decimals inputs ++ rest))
+taken_fields shape unit group inputs rest = unit_label shape unit ∷ codes "g" ∷ (decimals group ++ codes "in" ∷ (decimals inputs ++ rest))
 
 abbrev pub launch_fields : Shape → ℕ → Entry → List (List ℕ)
 launch_fields shape k e = decimal k ∷ taken_fields shape e.unit e.at e.inputs (codes "out" ∷ decimals (range_with_len e.first_out e.outs))
@@ -51,12 +51,12 @@ IsGoodLine shape (lines.Done d) = IsGoodDone d
 IsGoodLine shape (lines.Buffer b) = IsGoodBuffer b
 IsGoodLine shape (lines.Stop s) = IsGoodStop shape s
 
-taken_text : (shape : Shape) (unit : ℕ) (group inputs : List ℕ) (rest : List (List ℕ)) → spread (taken_fields shape unit group inputs rest) ≡ 32 ∷ (unit_at shape unit ++ (codes " g" ++ (all_spaced group ++ (codes " in" ++ (all_spaced inputs ++ spread rest)))))
+taken_text : (shape : Shape) (unit : ℕ) (group inputs : List ℕ) (rest : List (List ℕ)) → spread (taken_fields shape unit group inputs rest) ≡ 32 ∷ (unit_label shape unit ++ (codes " g" ++ (all_spaced group ++ (codes " in" ++ (all_spaced inputs ++ spread rest)))))
 taken_text shape unit group inputs rest =
     let inner : spread (decimals inputs ++ rest) ≡ all_spaced inputs ++ spread rest = spread_append (decimals inputs) rest ∙ ap (λ (t : List ℕ). t ++ spread rest) (spread_decimals inputs) in
     let outer : spread (decimals group ++ codes "in" ∷ (decimals inputs ++ rest)) ≡ all_spaced group ++ (codes " in" ++ (all_spaced inputs ++ spread rest)) =
     spread_append (decimals group) (codes "in" ∷ (decimals inputs ++ rest)) ∙ (ap (λ (t : List ℕ). t ++ (codes " in" ++ spread (decimals inputs ++ rest))) (spread_decimals group) ∙ ap (λ (t : List ℕ). all_spaced group ++ (codes " in" ++ t)) inner) in
-    ap (λ (t : List ℕ). 32 ∷ (unit_at shape unit ++ (codes " g" ++ t))) outer
+    ap (λ (t : List ℕ). 32 ∷ (unit_label shape unit ++ (codes " g" ++ t))) outer
 
 buffer_text : (name count words : List ℕ) → codes "buffer " ++ name ++ (32 ∷ count) ++ words ++ codes "\n" ≡ (codes "buffer" ++ (32 ∷ (name ++ (32 ∷ (count ++ words))))) ++ 10 ∷ []
 buffer_text name count words = simp append_assoc
@@ -76,6 +76,6 @@ line_is shape k (lines.Buffer b) =
     buffer_text b.name (decimal b.count) (all_spaced b.words)
     ∙ ap (λ (w : List ℕ). (codes "buffer" ++ (32 ∷ (b.name ++ (32 ∷ (decimal b.count ++ w))))) ++ 10 ∷ []) (sym (spread_decimals b.words))
 line_is shape k (lines.Stop (Turns turns unit group inputs)) =
-    stop_text (decimal turns) (unit_at shape unit) (all_spaced group) (all_spaced inputs)
+    stop_text (decimal turns) (unit_label shape unit) (all_spaced group) (all_spaced inputs)
     ∙ ap (λ (w : List ℕ). (codes "stopped" ++ (32 ∷ (codes "turns" ++ (32 ∷ (decimal turns ++ w))))) ++ 10 ∷ []) (sym (taken_text shape unit group inputs []))
 line_is shape k (lines.Stop (Launches launches)) = simp append_assoc

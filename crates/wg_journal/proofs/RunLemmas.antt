@@ -13,8 +13,9 @@ use Rattle.wg_machine.specs.declared.journal.Stop.{Stop}
 use Rattle.wg_machine.specs.declared.journal.Journal.{Journal}
 use Rattle.wg_journal.specs.declared.lines.Line.{Line}
 use Rattle.wg_journal.specs.declared.lines.Line.TheVariants as lines
-use Rattle.wg_journal.specs.Names.{IsNaming}
-use Rattle.wg_journal.specs.Reading.{◌>>=◌, step}
+use Rattle.wg_journal.specs.Names.{NamesUnits}
+use Rattle.wg_words.specs.Maybe.{◌>>=◌}
+use Rattle.wg_journal.specs.Reading.{step}
 use Rattle.wg_journal.specs.Report.{IsGoodEntry, IsGoodBuffer, IsReport, lines_in, IsFirstBadLine}
 use Rattle.wg_journal.specs.Texts.{launch_line, launch_lines, done_line, buffer_line, stop_line, tail_text, report_text}
 use Rattle.wg_journal.proofs.FieldLemmas.{some_is}
@@ -61,7 +62,7 @@ steps_none names text = refl
 
 -- ---- a report's text is read as the report
 
-launches_again : (shape : Shape) (good : IsGoodShape shape) (names : List ℕ → Option ℕ) → IsNaming shape names → (pre es : List Entry) (more : List ℕ) → length pre + length es < 2 ^ 64 → Each (IsGoodEntry shape) es
+launches_again : (shape : Shape) (good : IsGoodShape shape) (names : List ℕ → Option ℕ) → NamesUnits shape names → (pre es : List Entry) (more : List ℕ) → length pre + length es < 2 ^ 64 → Each (IsGoodEntry shape) es
     → steps names (length es) (with_tail pre None [] None) (launch_lines shape (length pre) es ++ more) ≡ Some (with_tail (pre ++ es) None [] None, more)
 unfolding steps
 launches_again shape good names is pre [] more few each = ap (λ (l : List Entry). Some (with_tail l None [] None, more)) (sym (append-nil pre))
@@ -76,7 +77,7 @@ launches_again shape good names is pre (e ∷ es) more few each =
     ∙ (ap (λ (k : ℕ). steps names (length es) (with_tail (pre ++ e ∷ []) None [] None) (launch_lines shape k es ++ more)) n
     ∙ (ih ∙ ap (λ (l : List Entry). Some (with_tail l None [] None, more)) (append_assoc pre (e ∷ []) es)))
 
-buffers_again : (shape : Shape) (good : IsGoodShape shape) (names : List ℕ → Option ℕ) → IsNaming shape names → (es : List Entry) (d : Done) (pre bs : List BufferLine) (more : List ℕ) → length es < 2 ^ 64 → Each IsGoodBuffer bs
+buffers_again : (shape : Shape) (good : IsGoodShape shape) (names : List ℕ → Option ℕ) → NamesUnits shape names → (es : List Entry) (d : Done) (pre bs : List BufferLine) (more : List ℕ) → length es < 2 ^ 64 → Each IsGoodBuffer bs
     → steps names (length bs) (with_tail es (Some d) pre None) (flat_map buffer_line bs ++ more) ≡ Some (with_tail es (Some d) (pre ++ bs) None, more)
 unfolding steps
 buffers_again shape good names is es d pre [] more few each = ap (λ (l : List BufferLine). Some (with_tail es (Some d) l None, more)) (sym (append-nil pre))
@@ -89,7 +90,7 @@ buffers_again shape good names is es d pre (b ∷ bs) more few each =
     ap (λ (o : Option (Journal × List ℕ)). o >>= λ r. steps names (length bs) r.0 r.1) (ap (step names (with_tail es (Some d) pre None)) text ∙ one)
     ∙ (ih ∙ ap (λ (l : List BufferLine). Some (with_tail es (Some d) l None, more)) (append_assoc pre (b ∷ []) bs))
 
-tail_again : (shape : Shape) (good : IsGoodShape shape) (names : List ℕ → Option ℕ) → IsNaming shape names → (es : List Entry) (done : Option Done) (bs : List BufferLine) (stop : Option Stop) (more : List ℕ) → IsReport shape (with_tail es done bs stop) → (n : ℕ) → length es + n ≡ lines_in (with_tail es done bs stop)
+tail_again : (shape : Shape) (good : IsGoodShape shape) (names : List ℕ → Option ℕ) → NamesUnits shape names → (es : List Entry) (done : Option Done) (bs : List BufferLine) (stop : Option Stop) (more : List ℕ) → IsReport shape (with_tail es done bs stop) → (n : ℕ) → length es + n ≡ lines_in (with_tail es done bs stop)
     → steps names n (with_tail es None [] None) (tail_text shape (record { done = done; buffers = bs; stop = stop }) ++ more) ≡ Some (with_tail es done bs stop, more)
 unfolding steps
 tail_again shape good names is es None bs None more report n e =
@@ -120,7 +121,7 @@ tail_again shape good names is es (Some d) bs None more report n e =
     ∙ buffers_again shape good names is es d [] bs more report.few report.tail.1)
 tail_again shape good names is es (Some d) bs (Some s) more report n e = absurd (⊎_elim (λ h. cc) (λ h. cc) report.tail.4)
 
-pub report_again : (shape : Shape) (good : IsGoodShape shape) (names : List ℕ → Option ℕ) → IsNaming shape names → (j : Journal) (more : List ℕ) → IsReport shape j → steps names (lines_in j) empty (report_text shape j ++ more) ≡ Some (j, more)
+pub report_again : (shape : Shape) (good : IsGoodShape shape) (names : List ℕ → Option ℕ) → NamesUnits shape names → (j : Journal) (more : List ℕ) → IsReport shape j → steps names (lines_in j) empty (report_text shape j ++ more) ≡ Some (j, more)
 report_again shape good names is j more report =
     let es = j.entries in
     let after = tail_text shape j.tail ++ more in
@@ -182,16 +183,16 @@ stuck names (suc m) (suc n) j text a b rest p some e q =
     let same = some_is s.0 t.0 (sym s.1 ∙ t.1) in
     stuck names m n t.0.0 t.0.1 a b rest (subst (λ (r : Journal × List ℕ). steps names m r.0 r.1 ≡ Some (a, rest)) same s.2) some e t.2
 
-whole_text : (shape : Shape) (good : IsGoodShape shape) (names : List ℕ → Option ℕ) → IsNaming shape names → (text : List ℕ) (j : Journal) → IsReport shape j → text ≡ report_text shape j → steps names (lines_in j) empty text ≡ Some (j, [])
+whole_text : (shape : Shape) (good : IsGoodShape shape) (names : List ℕ → Option ℕ) → NamesUnits shape names → (text : List ℕ) (j : Journal) → IsReport shape j → text ≡ report_text shape j → steps names (lines_in j) empty text ≡ Some (j, [])
 whole_text shape good names is text j report e = ap (steps names (lines_in j) empty) (e ∙ sym (append-nil (report_text shape j))) ∙ report_again shape good names is j [] report
 
-pub only_one : (shape : Shape) (good : IsGoodShape shape) (names : List ℕ → Option ℕ) → IsNaming shape names → (text : List ℕ) (n : ℕ) (read j : Journal) → steps names n empty text ≡ Some (read, []) → IsReport shape j → text ≡ report_text shape j → read ≡ j
+pub only_one : (shape : Shape) (good : IsGoodShape shape) (names : List ℕ → Option ℕ) → NamesUnits shape names → (text : List ℕ) (n : ℕ) (read j : Journal) → steps names n empty text ≡ Some (read, []) → IsReport shape j → text ≡ report_text shape j → read ≡ j
 only_one shape good names is text n read j e report t = ends names n (lines_in j) empty text read j e (whole_text shape good names is text j report t)
 
-pub no_report : (shape : Shape) (good : IsGoodShape shape) (names : List ℕ → Option ℕ) → IsNaming shape names → (text : List ℕ) (n : ℕ) (read : Journal) (rest : List ℕ) → steps names n empty text ≡ Some (read, rest) → rest ≢ [] → step names read rest ≡ None → (j : Journal) → IsReport shape j → text ≡ report_text shape j → ⊥
+pub no_report : (shape : Shape) (good : IsGoodShape shape) (names : List ℕ → Option ℕ) → NamesUnits shape names → (text : List ℕ) (n : ℕ) (read : Journal) (rest : List ℕ) → steps names n empty text ≡ Some (read, rest) → rest ≢ [] → step names read rest ≡ None → (j : Journal) → IsReport shape j → text ≡ report_text shape j → ⊥
 no_report shape good names is text n read rest e some none j report t = stuck names n (lines_in j) empty text read j rest e some none (whole_text shape good names is text j report t)
 
-pub bad_line : (shape : Shape) (good : IsGoodShape shape) (names : List ℕ → Option ℕ) → IsNaming shape names → (text : List ℕ) (read : Journal) (rest : List ℕ) (number : ℕ) → steps names (lines_in read) empty text ≡ Some (read, rest) → IsReport shape read → text ≡ report_text shape read ++ rest → rest ≢ [] → step names read rest ≡ None → lines_in read + 1 ≡ number → IsFirstBadLine shape text number
+pub bad_line : (shape : Shape) (good : IsGoodShape shape) (names : List ℕ → Option ℕ) → NamesUnits shape names → (text : List ℕ) (read : Journal) (rest : List ℕ) (number : ℕ) → steps names (lines_in read) empty text ≡ Some (read, rest) → IsReport shape read → text ≡ report_text shape read ++ rest → rest ≢ [] → step names read rest ≡ None → lines_in read + 1 ≡ number → IsFirstBadLine shape text number
 bad_line shape good names is text read rest number e report t some none n =
     record {
       front = read;
@@ -222,7 +223,7 @@ goes_first shape names text = record { report = record { few = omega arith; entr
 some_line : (shape : Shape) (k : ℕ) (l : Line) → 1 ≤ length (line_text shape k l)
 some_line shape k l = let e = ap (λ (t : List ℕ). length t) (line_is shape k l) in omega (arith, length-append {A = ℕ})
 
-pub goes_on : (shape : Shape) (names : List ℕ → Option ℕ) → IsNaming shape names → (text : List ℕ) (j : Journal) (rest : List ℕ) (number : ℕ) (more : Journal) (after : List ℕ) → length text < 2 ^ 64 → Goes shape names text j rest number → step names j rest ≡ Some (more, after) → Goes shape names text more after (number + 1) × (length after < length rest)
+pub goes_on : (shape : Shape) (names : List ℕ → Option ℕ) → NamesUnits shape names → (text : List ℕ) (j : Journal) (rest : List ℕ) (number : ℕ) (more : Journal) (after : List ℕ) → length text < 2 ^ 64 → Goes shape names text j rest number → step names j rest ≡ Some (more, after) → Goes shape names text more after (number + 1) × (length after < length rest)
 goes_on shape names is text j rest number more after few g e =
     let s = step_sound shape names is j rest more after e in
     let x = extended_grows shape j s.line more g.report s.good s.extends in

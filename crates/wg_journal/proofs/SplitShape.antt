@@ -38,6 +38,7 @@ alike a b p q =
       budgets = sym (ap (λ (u : Unit). u.budgets) p.is) ∙ ap (λ (u : Unit). u.budgets) q.is;
       bools = sym (ap (λ (u : Unit). u.bools) p.is) ∙ ap (λ (u : Unit). u.bools) q.is;
       outputs = sym (ap (λ (u : Unit). map form_of u.outputs) p.is) ∙ ap (λ (u : Unit). map form_of u.outputs) q.is;
+      shared = sym (ap (λ (u : Unit). u.shared) p.is) ∙ ap (λ (u : Unit). u.shared) q.is;
     }
 
 good_at : (k level : ℕ) (entry : Bool) → (IsTrue entry → IsFirst split_shape k) → 1 ≡ depth_of split_shape.units k → IsGoodUnit split_shape k (split_unit level entry)
@@ -52,6 +53,7 @@ good_at k level entry first d = record {
   few_outputs = lit≤ tt;
   outputs = tt;
   bools = tt;
+  shared = λ h. absurd cc;
 }
 
 unit_good : (k : ℕ) (u : Unit) → slice_get split_shape.units k ≡ Some u → IsGoodUnit split_shape k u

@@ -14,9 +14,10 @@ use Rattle.wg_machine.specs.declared.journal.Stop.TheVariants.{Turns, Launches}
 use Rattle.wg_machine.specs.declared.journal.Journal.{Journal}
 use Rattle.wg_journal.specs.declared.lines.Line.{Line}
 use Rattle.wg_journal.specs.declared.lines.Line.TheVariants as lines
-use Rattle.wg_journal.specs.Names.{IsNaming}
+use Rattle.wg_journal.specs.Names.{NamesUnits}
 use Rattle.wg_text.specs.Cut.{cut}
-use Rattle.wg_journal.specs.Reading.{◌>>=◌, fields_of, line_at, extended, step}
+use Rattle.wg_words.specs.Maybe.{◌>>=◌}
+use Rattle.wg_journal.specs.Reading.{split_fields, line_at, with_line, step}
 use Rattle.wg_journal.specs.Report.{IsGoodEntry, IsGoodBuffer, IsReport, lines_in}
 use Rattle.wg_journal.specs.Texts.{launch_line, launch_lines, done_line, buffer_line, stop_line, report_text}
 use Rattle.wg_journal.proofs.FieldLemmas.{some_is}
@@ -33,16 +34,16 @@ pub record Stepped (shape : Shape) (j : Journal) (text : List ℕ) (more : Journ
   pub line : Line
   pub is : text ≡ line_text shape (length j.entries) line ++ rest
   pub good : IsGoodLine shape line
-  pub extends : extended j line ≡ Some more
+  pub extends : with_line j line ≡ Some more
 
-pub step_sound : (shape : Shape) (names : List ℕ → Option ℕ) → IsNaming shape names → (j : Journal) (text : List ℕ) (more : Journal) (rest : List ℕ) → step names j text ≡ Some (more, rest) → Stepped shape j text more rest
+pub step_sound : (shape : Shape) (names : List ℕ → Option ℕ) → NamesUnits shape names → (j : Journal) (text : List ℕ) (more : Journal) (rest : List ℕ) → step names j text ≡ Some (more, rest) → Stepped shape j text more rest
 unfolding step
 step_sound shape names is j text more rest e =
     let p = bind_some (cut (λ c. c == 10) text) _ (more, rest) e in
-    let l = bind_some (line_at names (length j.entries) (fields_of p.0.0)) _ (more, rest) p.2 in
-    let x = bind_some (extended j l.0) _ (more, rest) l.2 in
+    let l = bind_some (line_at names (length j.entries) (split_fields p.0.0)) _ (more, rest) p.2 in
+    let x = bind_some (with_line j l.0) _ (more, rest) l.2 in
     let same = some_is (x.0, p.0.1) (more, rest) x.2 in
-    let s = line_sound shape names is (length j.entries) (fields_of p.0.0) l.0 l.1 in
+    let s = line_sound shape names is (length j.entries) (split_fields p.0.0) l.0 l.1 in
     let line : line_text shape (length j.entries) l.0 ≡ p.0.0 ++ 10 ∷ [] =
     line_is shape (length j.entries) l.0 ∙ ap (λ (t : List ℕ). t ++ 10 ∷ []) (ap joined (sym s.0) ∙ joined_fields p.0.0) in
     let whole : text ≡ line_text shape (length j.entries) l.0 ++ p.0.1 =
@@ -61,7 +62,7 @@ some_fields shape k (lines.Buffer b) = (_, _, refl)
 some_fields shape k (lines.Stop (Turns turns unit group inputs)) = (_, _, refl)
 some_fields shape k (lines.Stop (Launches launches)) = (_, _, refl)
 
-pub step_again : (shape : Shape) (good : IsGoodShape shape) (names : List ℕ → Option ℕ) → IsNaming shape names → (j : Journal) (l : Line) (more : Journal) (rest : List ℕ) → length j.entries < 2 ^ 64 → IsGoodLine shape l → extended j l ≡ Some more
+pub step_again : (shape : Shape) (good : IsGoodShape shape) (names : List ℕ → Option ℕ) → NamesUnits shape names → (j : Journal) (l : Line) (more : Journal) (rest : List ℕ) → length j.entries < 2 ^ 64 → IsGoodLine shape l → with_line j l ≡ Some more
     → step names j (line_text shape (length j.entries) l ++ rest) ≡ Some (more, rest)
 unfolding step
 step_again shape good names is j l more rest few g e =
@@ -71,9 +72,9 @@ step_again shape good names is j l more rest few g e =
     let text : line_text shape k l ++ rest ≡ joined (f.0 ∷ f.1) ++ 10 ∷ rest =
     ap (λ (t : List ℕ). t ++ rest) (line_is shape k l ∙ ap (λ (fs : List (List ℕ)). joined fs ++ 10 ∷ []) f.2) ∙ append_assoc (joined (f.0 ∷ f.1)) (10 ∷ []) rest in
     let parts = ap (cut (λ c. c == 10)) text ∙ cut_joined f.0 f.1 rest seen.0 seen.1 in
-    let read : line_at names k (fields_of (joined (f.0 ∷ f.1))) ≡ Some l = ap (line_at names k) (fields_joined f.0 f.1 seen.0 seen.1 ∙ sym f.2) ∙ line_again shape names is k l few g in
-    let a = ap (λ (o : Option (List ℕ × List ℕ)). o >>= λ p. line_at names k (fields_of p.0) >>= λ line. extended j line >>= λ m. Some (m, p.1)) parts in
-    let b = ap (λ (o : Option Line). o >>= λ line. extended j line >>= λ m. Some (m, rest)) read in
+    let read : line_at names k (split_fields (joined (f.0 ∷ f.1))) ≡ Some l = ap (line_at names k) (fields_joined f.0 f.1 seen.0 seen.1 ∙ sym f.2) ∙ line_again shape names is k l few g in
+    let a = ap (λ (o : Option (List ℕ × List ℕ)). o >>= λ p. line_at names k (split_fields p.0) >>= λ line. with_line j line >>= λ m. Some (m, p.1)) parts in
+    let b = ap (λ (o : Option Line). o >>= λ line. with_line j line >>= λ m. Some (m, rest)) read in
     let c = ap (λ (o : Option Journal). o >>= λ m. Some (m, rest)) e in
     a ∙ (b ∙ c)
 
@@ -103,7 +104,7 @@ pub record Grows (shape : Shape) (j : Journal) (l : Line) (more : Journal) : Typ
 abbrev pub with_tail : List Entry → Option Done → List BufferLine → Option Stop → Journal
 with_tail es done bs stop = record { entries = es; tail = record { done = done; buffers = bs; stop = stop } }
 
-grows : (shape : Shape) (es : List Entry) (done : Option Done) (bs : List BufferLine) (stop : Option Stop) (l : Line) (more : Journal) → IsReport shape (with_tail es done bs stop) → IsGoodLine shape l → extended (with_tail es done bs stop) l ≡ Some more → Grows shape (with_tail es done bs stop) l more
+grows : (shape : Shape) (es : List Entry) (done : Option Done) (bs : List BufferLine) (stop : Option Stop) (l : Line) (more : Journal) → IsReport shape (with_tail es done bs stop) → IsGoodLine shape l → with_line (with_tail es done bs stop) l ≡ Some more → Grows shape (with_tail es done bs stop) l more
 grows shape es None bs None (lines.Launch e) more report good h =
     let none : bs ≡ [] = report.tail.3 refl in
     let made = with_tail (es ++ e ∷ []) None bs None in
@@ -163,5 +164,5 @@ grows shape es None bs (Some t) (lines.Done d) more report good h = absurd cc
 grows shape es None bs (Some t) (lines.Buffer b) more report good h = absurd cc
 grows shape es None bs (Some t) (lines.Stop s) more report good h = absurd cc
 
-pub extended_grows : (shape : Shape) (j : Journal) (l : Line) (more : Journal) → IsReport shape j → IsGoodLine shape l → extended j l ≡ Some more → Grows shape j l more
+pub extended_grows : (shape : Shape) (j : Journal) (l : Line) (more : Journal) → IsReport shape j → IsGoodLine shape l → with_line j l ≡ Some more → Grows shape j l more
 extended_grows shape j l more report good h = grows shape j.entries j.tail.done j.tail.buffers j.tail.stop l more report good h

@@ -1,19 +1,19 @@
 -- No two units of a good shape have one text.
-use Rattle.std.proofs.Common.{◌≡◌, ◌≢◌, ◌⊎◌, ℕ, zero, suc, ◌+◌, ◌-◌, ◌*◌, ◌%◌, ◌^◌, ◌≤◌, ◌<◌, Bool, true, false, List, [], ◌∷◌, ◌++◌, length, map, Some, refl, sym, ap, subst, ◌∙◌, append_assoc, arith, inl, inr, ⊎_elim}
+use Rattle.std.proofs.Common.{◌≡◌, ◌≢◌, ◌⊎◌, ℕ, zero, suc, ◌+◌, ◌-◌, ◌%◌, ◌^◌, ◌≤◌, ◌<◌, Bool, true, false, List, [], ◌∷◌, ◌++◌, length, map, Some, refl, sym, ap, subst, ◌∙◌, append_assoc, arith, inl, inr, ⊎_elim}
 use Rattle.std.specs.Prelude.{◌==◌, ◌&&◌, ◌||◌, IsTrue, slice_get, codes, if◌then◌else◌}
 use Rattle.std.specs.List.{list_all}
 use Rattle.std.specs.Fmt.{decimal}
 use Rattle.std.proofs.lemmas.Fmt.{decimal_injective, decimal_by_steps}
-use Rattle.std.proofs.lemmas.List.{length-map}
 use Rattle.std.proofs.lemmas.Bool.Decides.{nat_tests}
 use Rattle.wg_words.specs.Each.{Each}
 use Rattle.wg_machine.specs.declared.shape.Shape.{Shape}
 use Rattle.wg_machine.specs.declared.shape.Unit.{Unit}
 use Rattle.wg_machine.specs.declared.shape.NodeName.{NodeName}
-use Rattle.wg_machine.specs.GoodShape.{is_letter, is_digit, is_identifier, IsGoodShape}
+use Rattle.wg_machine.specs.GoodShape.{IsGoodShape}
+use Rattle.wg_words.specs.Characters.{is_letter, is_digit, is_identifier}
 use Rattle.wg_machine.specs.Unrolling.{levels, unrolled, node_and_level}
 use Rattle.wg_journal.specs.Names.{index_at}
-use Rattle.wg_journal.specs.Texts.{unit_text, unit_at}
+use Rattle.wg_journal.specs.Texts.{unit_text, unit_label}
 use Rattle.wg_journal.proofs.FieldLemmas.{some_is}
 use Rattle.wg_journal.proofs.NumberLemmas.{Visible, visible_append, visible_decimal}
 
@@ -65,29 +65,6 @@ at_place n (d ∷ depths) u m level few e = ⊎_elim own (later (λ v h. at_plac
         let high = h.high in
         let test : (m == n) ≡ false = grind (arith, nat_tests) in
         record { low = omega arith; high = omega arith; level_few = h.level_few; placed = rw test (omega (arith, p.1, h.placed)) }
-
--- ---- how many units there are
-
-length_levels : (n d : ℕ) (rest : List (ℕ × ℕ)) → length (levels n d ++ rest) ≡ d + 1 + length rest
-length_levels n zero rest = omega arith
-length_levels n (suc d) rest = let h = length_levels n d rest in omega arith
-
-length_unrolled : (n : ℕ) (depths : List ℕ) → Each (λ d. d ≤ 31) depths → length (unrolled n depths) ≤ 32 * length depths
-length_unrolled n [] few = omega arith
-length_unrolled n (d ∷ depths) few =
-    let h = length_unrolled (n + 1) depths few.1 in
-    let l = length_levels n d (unrolled (n + 1) depths) in
-    let f = few.0 in
-    omega arith
-
-pub units_few : (shape : Shape) → IsGoodShape shape → length shape.units ≤ 8192
-units_few shape good =
-    let un = good.unrolling in
-    let a = length_unrolled 0 un.depths un.few in
-    let b = ap (λ (l : List (ℕ × ℕ)). length l) un.units in
-    let n = good.few_nodes in
-    let c = un.count in
-    omega (arith, length-map shape.units node_and_level)
 
 -- ---- what stands before the first `[`
 
@@ -183,7 +160,7 @@ pub record HasUnit (shape : Shape) (good : IsGoodShape shape) (u : ℕ) : Type 0
   pub identifier : IsTrue (is_identifier name.name)
   pub level_few : unit.level ≤ 31
   pub placed : u ≡ place 0 good.unrolling.depths unit.node unit.level
-  pub text : unit_at shape u ≡ unit_text name.name name.index unit.level
+  pub text : unit_label shape u ≡ unit_text name.name name.index unit.level
   pub index : index_at shape u ≡ name.index
 
 pub has_unit : (shape : Shape) (good : IsGoodShape shape) (u : ℕ) → u < length shape.units → HasUnit shape good u
@@ -207,7 +184,7 @@ has_unit shape good u h =
       index = rw (n.1, m.1) refl;
     }
 
-pub one_unit : (shape : Shape) (good : IsGoodShape shape) (u v : ℕ) → u < length shape.units → v < length shape.units → index_at shape u < 2 ^ 64 → index_at shape v < 2 ^ 64 → unit_at shape u ≡ unit_at shape v → u ≡ v
+pub one_unit : (shape : Shape) (good : IsGoodShape shape) (u v : ℕ) → u < length shape.units → v < length shape.units → index_at shape u < 2 ^ 64 → index_at shape v < 2 ^ 64 → unit_label shape u ≡ unit_label shape v → u ≡ v
 one_unit shape good u v hu hv fu fv e =
     let a = has_unit shape good u hu in
     let b = has_unit shape good v hv in
@@ -222,7 +199,7 @@ one_unit shape good u v hu hv fu fv e =
     let node : a.unit.node ≡ b.unit.node = good.nodes_differ a.unit.node b.unit.node a.name a.name_is (b.name_is ∙ ap (λ (n : NodeName). Some n) (sym same)) in
     a.placed ∙ (ap (λ (n : ℕ). place 0 good.unrolling.depths n a.unit.level) node ∙ (ap (λ (l : ℕ). place 0 good.unrolling.depths b.unit.node l) tells.2 ∙ sym b.placed))
 
-pub visible_unit : (shape : Shape) (good : IsGoodShape shape) (u : ℕ) → u < length shape.units → index_at shape u < 2 ^ 64 → Visible (unit_at shape u)
+pub visible_unit : (shape : Shape) (good : IsGoodShape shape) (u : ℕ) → u < length shape.units → index_at shape u < 2 ^ 64 → Visible (unit_label shape u)
 visible_unit shape good u h f =
     let a = has_unit shape good u h in
     let i = a.index in

@@ -6,7 +6,7 @@ use Rattle.wg_machine.specs.declared.shape.Unit.{Unit}
 use Rattle.wg_machine.specs.declared.shape.NodeName.{NodeName}
 use Rattle.wg_text.specs.Names.{found_in}
 use Rattle.wg_journal.specs.declared.names.UnitNames.{UnitNames}
-use Rattle.wg_journal.specs.Texts.{unit_at}
+use Rattle.wg_journal.specs.Texts.{unit_label}
 
 -- the unit that a text names
 abbrev pub unit_in : UnitNames → List ℕ → Option ℕ
@@ -18,7 +18,7 @@ index_at shape u =
     unwrap_or (option_map (λ (n : Unit). unwrap_or (option_map (λ (m : NodeName). m.index) (slice_get shape.nodes n.node)) 0) (slice_get shape.units u)) 0
 
 -- each text names the unit whose text it is, and no other does
-pub record IsNaming (shape : Shape) (names : List ℕ → Option ℕ) : Type 0 where
-  pub sound : (text : List ℕ) (u : ℕ) → names text ≡ Some u → (u < length shape.units) × (text ≡ unit_at shape u)
-  pub again : (u : ℕ) → u < length shape.units → names (unit_at shape u) ≡ Some u
+pub record NamesUnits (shape : Shape) (names : List ℕ → Option ℕ) : Type 0 where
+  pub sound : (text : List ℕ) (u : ℕ) → names text ≡ Some u → (u < length shape.units) × (text ≡ unit_label shape u)
+  pub again : (u : ℕ) → u < length shape.units → names (unit_label shape u) ≡ Some u
   pub index : (u : ℕ) → u < length shape.units → index_at shape u < 2 ^ 64

@@ -3,7 +3,7 @@ use Rattle.std.specs.Prelude.{◌≡◌, ◌≢◌, ◌⊎◌, ℕ, ◌+◌, ◌
 use Rattle.wg_words.specs.Each.{Each}
 use Rattle.wg_machine.specs.declared.shape.Shape.{Shape}
 use Rattle.wg_machine.specs.declared.launch.Entry.{Entry}
-use Rattle.wg_machine.specs.GoodShape.{is_identifier}
+use Rattle.wg_words.specs.Characters.{is_identifier}
 use Rattle.wg_journal.specs.declared.fault.JournalFault.{JournalFault}
 use Rattle.wg_journal.specs.declared.fault.JournalFault.TheVariants as faults
 use Rattle.wg_machine.specs.declared.journal.Done.{Done}
@@ -14,14 +14,14 @@ use Rattle.wg_machine.specs.declared.journal.Tail.{Tail}
 use Rattle.wg_machine.specs.declared.journal.Journal.{Journal}
 use Rattle.wg_journal.specs.Texts.{report_text}
 
-abbrev pub is_below : List ℕ → ℕ → Bool
-is_below [] n = true
-is_below (m ∷ ms) n = nat_lt n m
+abbrev pub first_is_above : List ℕ → ℕ → Bool
+first_is_above [] n = true
+first_is_above (m ∷ ms) n = nat_lt n m
 
 -- each number is above the one before it
 abbrev pub is_rising : List ℕ → Bool
 is_rising [] = true
-is_rising (n ∷ ns) = is_below ns n && is_rising ns
+is_rising (n ∷ ns) = first_is_above ns n && is_rising ns
 
 -- what a launch takes: a group of a unit of the shape, and records in rising order of number
 pub record IsTaken (shape : Shape) (unit : ℕ) (group inputs : List ℕ) : Type 0 where
@@ -68,13 +68,13 @@ pub record IsReport (shape : Shape) (j : Journal) : Type 0 where
   pub entries : Each (IsGoodEntry shape) j.entries
   pub tail : IsGoodTail shape j.tail
 
-abbrev pub count_of : {X : Type 0} → Option X → ℕ
-count_of None = 0
-count_of (Some x) = 1
+abbrev pub how_many : {X : Type 0} → Option X → ℕ
+how_many None = 0
+how_many (Some x) = 1
 
 -- how many lines its report has
 abbrev pub lines_in : Journal → ℕ
-lines_in j = length j.entries + count_of j.tail.done + length j.tail.buffers + count_of j.tail.stop
+lines_in j = length j.entries + how_many j.tail.done + length j.tail.buffers + how_many j.tail.stop
 
 -- A text has no line of this number that a report may have there: what stands before the line is a report, what
 -- stands up to its end is none.

@@ -27,14 +27,14 @@ abbrev pub unit_text : List ℕ → ℕ → ℕ → List ℕ
 unit_text name index level = name ++ codes "[" ++ decimal index ++ codes "]@" ++ decimal level
 
 -- the unit of a number; nothing where the shape has none
-abbrev pub unit_at : Shape → ℕ → List ℕ
-unit_at shape u =
+abbrev pub unit_label : Shape → ℕ → List ℕ
+unit_label shape u =
     unwrap_or (option_map (λ (n : Unit). unwrap_or (option_map (λ (m : NodeName). unit_text m.name m.index n.level) (slice_get shape.nodes n.node)) []) (slice_get shape.units u)) []
 
 -- the line of the launch at a place: `K NAME[i]@level g X Y Z in A B out C D`
 abbrev pub launch_line : Shape → ℕ → Entry → List ℕ
 launch_line shape k e =
-    decimal k ++ codes " " ++ unit_at shape e.unit ++ codes " g" ++ all_spaced e.at ++ codes " in" ++ all_spaced e.inputs
+    decimal k ++ codes " " ++ unit_label shape e.unit ++ codes " g" ++ all_spaced e.at ++ codes " in" ++ all_spaced e.inputs
     ++ codes " out" ++ all_spaced (range_with_len e.first_out e.outs) ++ codes "\n"
 
 -- the lines of launches, numbered on from a place
@@ -55,7 +55,7 @@ buffer_line b = codes "buffer " ++ b.name ++ spaced b.count ++ all_spaced b.word
 -- a launch that spent its turns: `stopped turns T NAME[i]@level g X Y Z in A B`
 abbrev pub turns_line : Shape → ℕ → ℕ → List ℕ → List ℕ → List ℕ
 turns_line shape turns unit group inputs =
-    codes "stopped turns" ++ spaced turns ++ codes " " ++ unit_at shape unit ++ codes " g" ++ all_spaced group ++ codes " in"
+    codes "stopped turns" ++ spaced turns ++ codes " " ++ unit_label shape unit ++ codes " g" ++ all_spaced group ++ codes " in"
     ++ all_spaced inputs ++ codes "\n"
 
 -- a run that spent its launches: `stopped launches L`

@@ -6,7 +6,6 @@ mod fields;
 mod lines;
 mod names;
 mod reading;
-mod refusal;
 mod write;
 
 pub use fault::JournalFault;

@@ -1,13 +1,14 @@
 ghost use Rattle.std.specs.Prelude.{◌≡◌};
 ghost use Rattle.wg_journal.specs.Names.{unit_in};
-ghost use Rattle.wg_journal.specs.Reading.{Takes, Gives, taken_at, launch_at, done_at, buffer_at, turns_at, launches_at, stop_at, line_at, is_some_rising as is_rising_and_some};
+ghost use Rattle.wg_text.specs.Refusals.{Yields, YieldsAnd};
+ghost use Rattle.wg_journal.specs.Reading.{taken_at, launch_at, done_at, buffer_line_at, turns_at, launches_at, stop_at, line_at, is_some_rising as is_rising_and_some};
 
-use crate::fields::{Fields, number};
+use crate::fields::Fields;
 use crate::names::UnitNames;
-use crate::refusal::Refusal;
 use crate::{BufferLine, Done, Stop};
 use std::alloc::Global;
 use wg_machine::Entry;
+use wg_text::{Refusal, printed};
 use wg_words::Numbers;
 
 /// What a launch takes: its unit, its group in the grid, and the records.
@@ -47,13 +48,10 @@ fn is_some_rising(numbers: &[u64]) -> bool
 /// A unit, its group and the records that it takes.
 #[tactic(auto, unfolding(crate::specs::Reading::taken_at))]
 fn taken_of(alloc: Global, names: &UnitNames, fields: &mut Fields<'_>) -> Result<Taken, Refusal>
-    ensures { Takes result fields.new (taken_at (unit_in names.now) fields.old) }
+    ensures { YieldsAnd result fields.new (taken_at (unit_in names.now) fields.old) }
 {
     let unit = fields.unit(names)?;
-    fields.keyword(b"g")?;
-    let x = fields.word()?;
-    let y = fields.word()?;
-    let z = fields.word()?;
+    let group = fields.group()?;
     fields.keyword(b"in")?;
     let inputs = fields.numbers(alloc)?;
     if !is_some_rising(inputs.as_slice()) {
@@ -61,7 +59,7 @@ fn taken_of(alloc: Global, names: &UnitNames, fields: &mut Fields<'_>) -> Result
     }
     Ok(Taken {
         unit,
-        group: [x, y, z],
+        group,
         inputs,
     })
 }
@@ -75,9 +73,9 @@ fn launch_of(
     first: &[u8],
     fields: &mut Fields<'_>,
 ) -> Result<Entry, Refusal>
-    ensures { Gives result (launch_at (unit_in names.now) place first.now fields.old) }
+    ensures { Yields result (launch_at (unit_in names.now) place first.now fields.old) }
 {
-    if number(first) != Some(place) {
+    if printed(first) != Some(place) {
         return Err(Refusal::Form);
     }
     let Taken {
@@ -98,7 +96,7 @@ fn launch_of(
 
 #[tactic(auto, unfolding(crate::specs::Reading::done_at))]
 fn done_of(fields: &mut Fields<'_>) -> Result<Done, Refusal>
-    ensures { Gives result (done_at fields.old) }
+    ensures { Yields result (done_at fields.old) }
 {
     let launches = fields.named(b"launches")?;
     let records = fields.named(b"records")?;
@@ -115,9 +113,9 @@ fn done_of(fields: &mut Fields<'_>) -> Result<Done, Refusal>
     })
 }
 
-#[tactic(auto, unfolding(crate::specs::Reading::buffer_at))]
+#[tactic(auto, unfolding(crate::specs::Reading::buffer_line_at))]
 fn buffer_of(alloc: Global, fields: &mut Fields<'_>) -> Result<BufferLine, Refusal>
-    ensures { Gives result (buffer_at fields.old) }
+    ensures { Yields result (buffer_line_at fields.old) }
 {
     let name = fields.name(alloc)?;
     let count = fields.number()?;
@@ -127,7 +125,7 @@ fn buffer_of(alloc: Global, fields: &mut Fields<'_>) -> Result<BufferLine, Refus
 
 #[tactic(auto, unfolding(crate::specs::Reading::turns_at))]
 fn stopped_turns(alloc: Global, names: &UnitNames, fields: &mut Fields<'_>) -> Result<Stop, Refusal>
-    ensures { Gives result (turns_at (unit_in names.now) fields.old) }
+    ensures { Yields result (turns_at (unit_in names.now) fields.old) }
 {
     let turns = fields.number()?;
     let Taken {
@@ -146,7 +144,7 @@ fn stopped_turns(alloc: Global, names: &UnitNames, fields: &mut Fields<'_>) -> R
 
 #[tactic(auto, unfolding(crate::specs::Reading::launches_at))]
 fn stopped_launches(fields: &mut Fields<'_>) -> Result<Stop, Refusal>
-    ensures { Gives result (launches_at fields.old) }
+    ensures { Yields result (launches_at fields.old) }
 {
     let launches = fields.number()?;
     fields.end()?;
@@ -154,7 +152,7 @@ fn stopped_launches(fields: &mut Fields<'_>) -> Result<Stop, Refusal>
 }
 
 fn stop_of(alloc: Global, names: &UnitNames, fields: &mut Fields<'_>) -> Result<Stop, Refusal>
-    ensures { Gives result (stop_at (unit_in names.now) fields.old) }
+    ensures { Yields result (stop_at (unit_in names.now) fields.old) }
 {
     let field = fields.next().ok_or(Refusal::Form)?;
     if field == b"turns".as_slice() {
@@ -173,7 +171,7 @@ pub fn line_of(
     place: u64,
     fields: &mut Fields<'_>,
 ) -> Result<Line, Refusal>
-    ensures { Gives result (line_at (unit_in names.now) place fields.old) }
+    ensures { Yields result (line_at (unit_in names.now) place fields.old) }
 {
     let first = fields.next().ok_or(Refusal::Form)?;
     if first == b"done".as_slice() {

@@ -1,10 +1,10 @@
 ghost use Rattle.std.specs.Prelude.{◌≡◌, IfOk};
 ghost use Rattle.wg_machine.specs.GoodShape.{IsGoodShape};
-ghost use Rattle.wg_journal.specs.Names.{unit_in, IsNaming};
+ghost use Rattle.wg_journal.specs.Names.{unit_in, NamesUnits};
 
 use crate::write::push_unit;
 use std::alloc::{AllocError, Global};
-use wg_machine::Shape;
+use wg_machine::{Shape, few_units};
 use wg_text::NameMap;
 
 /// The units of a shape by their texts.
@@ -16,8 +16,9 @@ pub struct UnitNames {
 impl UnitNames {
     pub fn new(alloc: Global, shape: &Shape) -> Result<UnitNames, AllocError>
         requires { IsGoodShape shape.now }
-        ensures { IfOk result (λ names. IsNaming shape.now (unit_in names)) }
+        ensures { IfOk result (λ names. NamesUnits shape.now (unit_in names)) }
     {
+        few_units();
         let mut by_text = NameMap::new(alloc);
         for (number, _) in shape.units.as_slice().iter().enumerate() {
             let number = number as u32;

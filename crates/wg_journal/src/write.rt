@@ -2,9 +2,9 @@ ghost use Rattle.std.specs.Prelude.{◌≡◌, ◌≤◌, ◌<◌, ◌+◌, ◌^
 ghost use Rattle.std.specs.Fmt.{decimal};
 ghost use Rattle.std.specs.List.{flat_map, range_with_len};
 ghost use Rattle.wg_words.specs.Each.{Each};
-ghost use Rattle.wg_machine.specs.declared.launch.Entry.{Entry as Launched};
+ghost use Rattle.wg_machine.specs.declared.launch.Entry.{Entry as EntryOf};
 ghost use Rattle.wg_journal.specs.Names.{index_at};
-ghost use Rattle.wg_journal.specs.Texts.{spaced, all_spaced, unit_at, launch_line, done_line, buffer_line, turns_line, launches_line, stop_line, perhaps, tail_text, report_text};
+ghost use Rattle.wg_journal.specs.Texts.{spaced, all_spaced, unit_label, launch_line, done_line, buffer_line, turns_line, launches_line, stop_line, perhaps, tail_text, report_text};
 
 use crate::{BufferLine, Done, Journal, Stop, Tail};
 use std::alloc::{AllocError, Global};
@@ -59,7 +59,7 @@ pub(crate) fn push_unit(
     shape: &Shape,
     unit: u32,
 ) -> Result<(), AllocError>
-    ensures text { OnOk result (line.new.items ≡ line.old.items ++ unit_at shape.now unit) }
+    ensures text { OnOk result (line.new.items ≡ line.old.items ++ unit_label shape.now unit) }
     ensures index { OnOk result (index_at shape.now unit < 2 ^ 64) }
 {
     let Some(node) = shape.units.get(unit as usize) else {
@@ -209,7 +209,7 @@ fn push_tail(
 
 /// The report of a journal: the one text of it.
 pub fn print(alloc: Global, journal: &Journal, shape: &Shape) -> Result<Vec<u8>, AllocError>
-    requires { Each (λ (e : Launched). e.first_out + e.outs ≤ 2 ^ 64) journal.now.entries }
+    requires { Each (λ (e : EntryOf). e.first_out + e.outs ≤ 2 ^ 64) journal.now.entries }
     ensures { IfOk result (λ text. text.items ≡ report_text shape.now journal.now) }
 {
     let mut text = Vec::new(alloc);

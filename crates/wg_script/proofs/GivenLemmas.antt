@@ -14,9 +14,10 @@ use Rattle.wg_machine.specs.Buffers.{buffer_at}
 use Rattle.wg_script.specs.declared.draft.Given.{Given}
 use Rattle.wg_script.specs.declared.lines.Line.{Line}
 use Rattle.wg_script.specs.declared.lines.Line.TheVariants.{Nothing, Entry, Buffer}
-use Rattle.wg_script.specs.Naming.{unit_at, place_of}
+use Rattle.wg_words.specs.Padding.{padded}
+use Rattle.wg_script.specs.Naming.{entry_unit_at, place_among}
 use Rattle.wg_script.specs.Reading.{Sofar}
-use Rattle.wg_script.specs.Script.{handed, entries_of, is_place, given_by, or_else, given_at, asked_by, asked_of, count_of, words_given, padded, buffer_of, IsScript}
+use Rattle.wg_script.specs.Script.{handed, entries_of, is_place, given_by, or_else, given_at, asked_by, asked_of, count_given, words_given, whole_buffer, IsScript}
 
 -- the parts of a draft are those of what was said
 pub record Stands (shape : Shape) (s : Sofar) (said : List Line) : Type 0 where
@@ -66,7 +67,7 @@ stands_nothing shape s said stands = record {
   asked = stands.asked ∙ (omega arith ∙ sym (asked_more said Nothing));
 }
 
-pub stands_entry : (shape : Shape) (s : Sofar) (said : List Line) (name : List ℕ) (index unit : ℕ) (words : List ℕ) → Stands shape s said → unit_at shape name index ≡ Some unit
+pub stands_entry : (shape : Shape) (s : Sofar) (said : List Line) (name : List ℕ) (index unit : ℕ) (words : List ℕ) → Stands shape s said → entry_unit_at shape name index ≡ Some unit
     → Stands shape (record s { entries = s.entries ++ (record { unit = unit; words = words }) ∷ [] }) (said ++ Entry name index words ∷ [])
 stands_entry shape s said name index unit words stands is =
     let line = Entry name index words in
@@ -78,7 +79,7 @@ stands_entry shape s said name index unit words stands is =
       asked = stands.asked ∙ (omega arith ∙ sym (asked_more said line));
     }
 
-pub stands_buffer : (shape : Shape) (s : Sofar) (said : List Line) (name : List ℕ) (count : ℕ) (words : List ℕ) (place : ℕ) → Stands shape s said → place_of shape.buffers name ≡ Some place → place < length shape.buffers → given_at shape.buffers place said ≡ None
+pub stands_buffer : (shape : Shape) (s : Sofar) (said : List Line) (name : List ℕ) (count : ℕ) (words : List ℕ) (place : ℕ) → Stands shape s said → place_among shape.buffers name ≡ Some place → place < length shape.buffers → given_at shape.buffers place said ≡ None
     → Stands shape (record s { given = slice_set s.given place (Some (record { count = count; words = words })); asked = s.asked + count }) (said ++ Buffer name count words ∷ [])
 stands_buffer shape s said name count words place stands is within none =
     let line = Buffer name count words in
@@ -104,26 +105,26 @@ stands_buffer shape s said name count words place stands is within none =
 
 -- ---- the script
 
-pub is_script : (shape : Shape) (s : Sofar) (said : List Line) → Stands shape s said → IsScript shape said (record { entries = s.entries; lengths = map count_of s.given; start = map words_given s.given })
+pub is_script : (shape : Shape) (s : Sofar) (said : List Line) → Stands shape s said → IsScript shape said (record { entries = s.entries; lengths = map count_given s.given; start = map words_given s.given })
 is_script shape s said stands =
     record {
       entries = stands.entries;
-      lengths = length-map s.given count_of ∙ stands.slots;
+      lengths = length-map s.given count_given ∙ stands.slots;
       starts = length-map s.given words_given ∙ stands.slots;
       count = count;
       given = given;
-      zeros = λ b h. (ap (λ (l : List ℕ). padded l (slice_index (map count_of s.given) b)) (given b h) ∙ (ap (padded (words_given (given_at shape.buffers b said))) (count b h) ∙ filled (given_at shape.buffers b said)));
+      zeros = λ b h. (ap (λ (l : List ℕ). padded l (slice_index (map count_given s.given) b)) (given b h) ∙ (ap (padded (words_given (given_at shape.buffers b said))) (count b h) ∙ filled (given_at shape.buffers b said)));
     }
   where
     slot : (b : ℕ) → b < length shape.buffers → slice_get s.given b ≡ Some (given_at shape.buffers b said)
     slot b h = let e = stands.slots in slice_get-get_or s.given b None (omega arith) ∙ ap (λ (o : Option Given). Some o) (stands.given b h)
 
-    count : (b : ℕ) → b < length shape.buffers → slice_index (map count_of s.given) b ≡ count_of (given_at shape.buffers b said)
-    count b h = sym (unwrap_or-slice_get (map count_of s.given) b 0) ∙ (ap (λ (o : Option ℕ). unwrap_or o 0) (slice_get-map count_of s.given b) ∙ ap (λ (o : Option (Option Given)). unwrap_or (option_map count_of o) 0) (slot b h))
+    count : (b : ℕ) → b < length shape.buffers → slice_index (map count_given s.given) b ≡ count_given (given_at shape.buffers b said)
+    count b h = sym (unwrap_or-slice_get (map count_given s.given) b 0) ∙ (ap (λ (o : Option ℕ). unwrap_or o 0) (slice_get-map count_given s.given b) ∙ ap (λ (o : Option (Option Given)). unwrap_or (option_map count_given o) 0) (slot b h))
 
     given : (b : ℕ) → b < length shape.buffers → buffer_at (map words_given s.given) b ≡ words_given (given_at shape.buffers b said)
     given b h = ap (λ (o : Option (List ℕ)). unwrap_or o []) (slice_get-map words_given s.given b) ∙ ap (λ (o : Option (Option Given)). unwrap_or (option_map words_given o) []) (slot b h)
 
-    filled : (o : Option Given) → padded (words_given o) (count_of o) ≡ buffer_of o
+    filled : (o : Option Given) → padded (words_given o) (count_given o) ≡ whole_buffer o
     filled None = refl
     filled (Some g) = refl

@@ -4,23 +4,23 @@ use Rattle.std.specs.Prelude.{◌⊎◌, slice_get, if◌then◌else◌}
 use Rattle.std.proofs.lemmas.List.{length-append}
 use Rattle.wg_machine.specs.declared.shape.Shape.{Shape}
 use Rattle.wg_script.specs.declared.script.ScriptFault.{ScriptFault}
-use Rattle.wg_script.specs.Rules.{Rule, rules, Breaks, AreGood, IsFirstFault}
+use Rattle.wg_script.specs.Rules.{ScriptRule, rules, LineBreaks, AreGood, IsFirstFault}
 use Rattle.wg_script.specs.Words.{lines_of}
-use Rattle.wg_script.proofs.CutLemmas.{some_is}
+use Rattle.wg_script.proofs.PieceLemmas.{some_is}
 
 -- the first rule of a list that is broken
-abbrev pub first_of : List Rule → Option ScriptFault
+abbrev pub first_of : List ScriptRule → Option ScriptFault
 first_of [] = None
 first_of (r ∷ rs) = if r.1 then Some r.0 else first_of rs
 
-pub record IsFirst (rs : List Rule) (fault : ScriptFault) : Type 0 where
+pub record IsFirst (rs : List ScriptRule) (fault : ScriptFault) : Type 0 where
   pub place : ℕ
   pub broken : slice_get rs place ≡ Some (fault, true)
   pub least : (k : ℕ) (other : ScriptFault) → k < place → slice_get rs k ≡ Some (other, true) → ⊥
 
-pub none_first : (rs : List Rule) → first_of rs ≡ None → (k : ℕ) (fault : ScriptFault) → slice_get rs k ≡ Some (fault, true) → ⊥
+pub none_first : (rs : List ScriptRule) → first_of rs ≡ None → (k : ℕ) (fault : ScriptFault) → slice_get rs k ≡ Some (fault, true) → ⊥
 none_first [] e k fault h = absurd cc
-none_first (r ∷ rs) e zero fault h = choice r.1 (ap (λ (p : Rule). p.1) (some_is r (fault, true) h)) e
+none_first (r ∷ rs) e zero fault h = choice r.1 (ap (λ (p : ScriptRule). p.1) (some_is r (fault, true) h)) e
   where
     choice : (b : Bool) → b ≡ true → (if b then Some r.0 else first_of rs) ≡ None → ⊥
     choice true t n = absurd cc
@@ -31,11 +31,11 @@ none_first (r ∷ rs) e (suc k) fault h = none_first rs (later r.1 e) k fault h
     later true n = absurd cc
     later false n = n
 
-later_least : (r : Rule) (rs : List Rule) (place : ℕ) → r.1 ≡ false → ((k : ℕ) (other : ScriptFault) → k < place → slice_get rs k ≡ Some (other, true) → ⊥) → (k : ℕ) (other : ScriptFault) → k < suc place → slice_get (r ∷ rs) k ≡ Some (other, true) → ⊥
-later_least r rs place t h zero other lt s = let y = ap (λ (p : Rule). p.1) (some_is r (other, true) s) in absurd cc
+later_least : (r : ScriptRule) (rs : List ScriptRule) (place : ℕ) → r.1 ≡ false → ((k : ℕ) (other : ScriptFault) → k < place → slice_get rs k ≡ Some (other, true) → ⊥) → (k : ℕ) (other : ScriptFault) → k < suc place → slice_get (r ∷ rs) k ≡ Some (other, true) → ⊥
+later_least r rs place t h zero other lt s = let y = ap (λ (p : ScriptRule). p.1) (some_is r (other, true) s) in absurd cc
 later_least r rs place t h (suc k) other lt s = h k other (omega arith) s
 
-pub some_first : (rs : List Rule) (fault : ScriptFault) → first_of rs ≡ Some fault → IsFirst rs fault
+pub some_first : (rs : List ScriptRule) (fault : ScriptFault) → first_of rs ≡ Some fault → IsFirst rs fault
 some_first [] fault e = absurd cc
 some_first (r ∷ rs) fault e = choice r.1 refl (λ h. some_first rs fault h) e
   where
@@ -66,7 +66,7 @@ split {A = A} (y ∷ xs) x (c ∷ b) l a e =
 
 pub good_more : (shape : Shape) (before : List (List ℕ)) (line : List ℕ) → AreGood shape before → first_of (rules shape before line) ≡ None → AreGood shape (before ++ line ∷ [])
 good_more shape before line good none = λ b l a k fault e broken. ⊎_elim
-    (λ (p : (b ≡ before) × (l ≡ line)). none_first (rules shape before line) none k fault (subst (λ (m : List ℕ). Breaks shape before m k fault) p.1 (subst (λ (c : List (List ℕ)). Breaks shape c l k fault) p.0 broken)))
+    (λ (p : (b ≡ before) × (l ≡ line)). none_first (rules shape before line) none k fault (subst (λ (m : List ℕ). LineBreaks shape before m k fault) p.1 (subst (λ (c : List (List ℕ)). LineBreaks shape c l k fault) p.0 broken)))
     (λ (p : (more : List (List ℕ)) × (before ≡ b ++ l ∷ more)). good b l p.0 k fault p.1 broken)
     (split before line b l a e)
 

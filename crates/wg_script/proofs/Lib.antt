@@ -1,9 +1,7 @@
-pub mod CutLemmas
+pub mod PieceLemmas
 pub mod FitLemmas
 pub mod GivenLemmas
 pub mod GoodLemmas
 pub mod NameLemmas
-pub mod NumberLemmas
 pub mod RuleLemmas
 pub mod RunLemmas
-pub mod UnitLemmas

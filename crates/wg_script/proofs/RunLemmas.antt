@@ -12,8 +12,9 @@ use Rattle.wg_script.specs.declared.script.ScriptFault.TheVariants as faults
 use Rattle.wg_script.specs.Lines.{said_of, is_title, all_said}
 use Rattle.wg_script.specs.Reading.{Sofar, line_added}
 use Rattle.wg_script.specs.Rules.{rules, rules_of, AreGood, IsFirstFault}
-use Rattle.wg_script.specs.Words.{is_line_feed, lines_from, lines_of, words_of}
-use Rattle.wg_script.proofs.CutLemmas.{pieces_some}
+use Rattle.wg_words.specs.Characters.{is_line_feed}
+use Rattle.wg_script.specs.Words.{lines_from, lines_of, line_words}
+use Rattle.wg_script.proofs.PieceLemmas.{pieces_some}
 use Rattle.wg_script.proofs.FitLemmas.{Holds, holds_first, holds_more}
 use Rattle.wg_script.proofs.GivenLemmas.{Stands, stands_first}
 use Rattle.wg_script.proofs.GoodLemmas.{first_of, good_none, good_more, first_fault}
@@ -48,13 +49,13 @@ lines_some text e = choice (slice_split is_line_feed text) (pieces_some is_line_
 
 -- ---- the title
 
-bad_title : (shape : Shape) (title : List ℕ) → is_title (words_of title) ≡ false → first_of (rules shape [] title) ≡ Some (faults.Form 1)
+bad_title : (shape : Shape) (title : List ℕ) → is_title (line_words title) ≡ false → first_of (rules shape [] title) ≡ Some (faults.Form 1)
 bad_title shape title e = ap (λ (b : Bool). first_of (rules_of shape 1 [] (if b then Some Nothing else None))) e
 
-good_title : (shape : Shape) (title : List ℕ) → is_title (words_of title) ≡ true → first_of (rules shape [] title) ≡ None
+good_title : (shape : Shape) (title : List ℕ) → is_title (line_words title) ≡ true → first_of (rules shape [] title) ≡ None
 good_title shape title e = ap (λ (b : Bool). first_of (rules_of shape 1 [] (if b then Some Nothing else None))) e
 
-pub title_fault : (shape : Shape) (text title : List ℕ) (rest : List (List ℕ)) → lines_of text ≡ title ∷ rest → is_title (words_of title) ≡ false → IsFirstFault shape text (faults.Form 1)
+pub title_fault : (shape : Shape) (text title : List ℕ) (rest : List (List ℕ)) → lines_of text ≡ title ∷ rest → is_title (line_words title) ≡ false → IsFirstFault shape text (faults.Form 1)
 title_fault shape text title rest e test = first_fault shape text [] title rest (faults.Form 1) e (good_none shape) (bad_title shape title test)
 
 -- ---- the lines after it
@@ -69,7 +70,7 @@ pub record Goes (shape : Shape) (text : List ℕ) (s : Sofar) (lines : List (Lis
   pub holds : Holds shape s
   pub count : number ≡ length (title ∷ done)
 
-pub goes_first : (shape : Shape) (text title : List ℕ) (rest : List (List ℕ)) → lines_of text ≡ title ∷ rest → is_title (words_of title) ≡ true → Goes shape text (record { entries = []; given = replicate (length shape.buffers) None; asked = 0 }) rest 1
+pub goes_first : (shape : Shape) (text title : List ℕ) (rest : List (List ℕ)) → lines_of text ≡ title ∷ rest → is_title (line_words title) ≡ true → Goes shape text (record { entries = []; given = replicate (length shape.buffers) None; asked = 0 }) rest 1
 goes_first shape text title rest e test =
     record { title = title; done = []; begins = e; good = good_more shape [] title (good_none shape) (good_title shape title test); stands = stands_first shape; holds = holds_first shape (length shape.buffers); count = refl }
 

@@ -1,7 +1,8 @@
 -- What holds of the parts of every script: what the machine asks of entry records and of buffers.
-use Rattle.std.specs.Prelude.{◌≡◌, ℕ, ◌^◌, ◌≤◌, false, length, slice_index, slice_get, Some, IsTrue}
+use Rattle.std.specs.Prelude.{◌≡◌, ℕ, ◌≤◌, false, length, slice_index, slice_get, Some, IsTrue}
 use Rattle.std.specs.List.{sum}
 use Rattle.wg_words.specs.Each.{Each}
+use Rattle.wg_words.specs.declared.limits.TheConstants.{MOST_ENTRIES, MOST_BUFFER_WORDS, MOST_ALL_BUFFER_WORDS}
 use Rattle.wg_machine.specs.declared.launch.Sent.{Sent}
 use Rattle.wg_machine.specs.declared.shape.Shape.{Shape}
 use Rattle.wg_machine.specs.declared.shape.Unit.{Unit}
@@ -23,7 +24,7 @@ pub record IsGoodRecord (shape : Shape) (r : Sent) : Type 0 where
 pub record IsFit (shape : Shape) (s : Script) : Type 0 where
   pub records : Each (IsGoodRecord shape) s.entries
   pub arrive : Each (Arrives shape) s.entries
-  pub few : length s.entries ≤ 1000000
+  pub few : length s.entries ≤ MOST_ENTRIES
   pub fits : (b : ℕ) → length (buffer_at s.start b) ≤ slice_index s.lengths b
-  pub small : (b : ℕ) → slice_index s.lengths b ≤ 2 ^ 22
-  pub all : sum s.lengths ≤ 2 ^ 24
+  pub small : (b : ℕ) → slice_index s.lengths b ≤ MOST_BUFFER_WORDS
+  pub all : sum s.lengths ≤ MOST_ALL_BUFFER_WORDS

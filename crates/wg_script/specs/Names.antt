@@ -5,7 +5,7 @@ use Rattle.std.specs.Int.{w32, to_be_bytes}
 use Rattle.wg_machine.specs.declared.shape.Shape.{Shape}
 use Rattle.wg_text.specs.Names.{found_in}
 use Rattle.wg_script.specs.declared.names.ScriptNames.{ScriptNames}
-use Rattle.wg_script.specs.Naming.{node_at, entry_at, place_of}
+use Rattle.wg_script.specs.Naming.{node_place, entry_at, place_among}
 
 -- a node's key: the four bytes of its index, then its name
 abbrev pub node_key : List ℕ → ℕ → List ℕ
@@ -19,6 +19,6 @@ abbrev pub buffer_in : ScriptNames → List ℕ → Option ℕ
 buffer_in names name = found_in names.buffers name
 
 -- the maps have each name of the shape, and no other
-pub record IsNaming (shape : Shape) (names : ScriptNames) : Type 0 where
-  pub nodes : (name : List ℕ) (index : ℕ) → index < 2 ^ 32 → node_in names name index ≡ option_map (entry_at shape) (node_at shape name index)
-  pub buffers : (name : List ℕ) → buffer_in names name ≡ place_of shape.buffers name
+pub record NamesShape (shape : Shape) (names : ScriptNames) : Type 0 where
+  pub nodes : (name : List ℕ) (index : ℕ) → index < 2 ^ 32 → node_in names name index ≡ option_map (entry_at shape) (node_place shape name index)
+  pub buffers : (name : List ℕ) → buffer_in names name ≡ place_among shape.buffers name

@@ -4,7 +4,7 @@ use Rattle.std.specs.Str.{bytes_eq}
 use Rattle.wg_machine.specs.declared.shape.Shape.{Shape}
 use Rattle.wg_machine.specs.declared.shape.Unit.{Unit}
 use Rattle.wg_machine.specs.declared.shape.NodeName.{NodeName}
-use Rattle.wg_script.specs.Words.{◌>>=◌}
+use Rattle.wg_words.specs.Maybe.{◌>>=◌}
 
 -- the place of the first that passes, in a list that begins at a place
 abbrev pub first_from : {A : Type 0} → (A → Bool) → ℕ → List A → Option ℕ
@@ -15,8 +15,8 @@ abbrev pub has_name : List ℕ → ℕ → NodeName → Bool
 has_name name index node = bytes_eq node.name name && (node.index == index)
 
 -- the node of a name and an index
-abbrev pub node_at : Shape → List ℕ → ℕ → Option ℕ
-node_at shape name index = first_from (has_name name index) 0 shape.nodes
+abbrev pub node_place : Shape → List ℕ → ℕ → Option ℕ
+node_place shape name index = first_from (has_name name index) 0 shape.nodes
 
 abbrev pub is_entry_of : ℕ → Unit → Bool
 is_entry_of node unit = unit.entry && (unit.node == node)
@@ -26,9 +26,9 @@ abbrev pub entry_at : Shape → ℕ → Option ℕ
 entry_at shape node = first_from (is_entry_of node) 0 shape.units
 
 -- the entry unit of the node of a name and an index
-abbrev pub unit_at : Shape → List ℕ → ℕ → Option ℕ
-unit_at shape name index = node_at shape name index >>= entry_at shape
+abbrev pub entry_unit_at : Shape → List ℕ → ℕ → Option ℕ
+entry_unit_at shape name index = node_place shape name index >>= entry_at shape
 
 -- the place of a name among the buffers
-abbrev pub place_of : List (List ℕ) → List ℕ → Option ℕ
-place_of names name = first_from (λ n. bytes_eq n name) 0 names
+abbrev pub place_among : List (List ℕ) → List ℕ → Option ℕ
+place_among names name = first_from (λ n. bytes_eq n name) 0 names

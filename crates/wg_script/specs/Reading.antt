@@ -1,17 +1,16 @@
 -- How a script is read line by line. What reading gives is proved to be the script, or the first fault.
-use Rattle.std.specs.Prelude.{◌≡◌, ◌⊎◌, ⊤, ℕ, ◌+◌, ◌^◌, ◌==◌, ◌||◌, not, nat_lt, nat_le, if◌then◌else◌, List, [], ◌∷◌, ◌++◌, length, slice_get, slice_set, Option, Some, None, Result, Ok, Err}
+use Rattle.std.specs.Prelude.{◌≡◌, ◌⊎◌, ℕ, ◌+◌, ◌==◌, ◌||◌, not, nat_lt, nat_le, if◌then◌else◌, List, [], ◌∷◌, ◌++◌, length, slice_get, slice_set, Option, Some, None, Result, Ok, Err}
 use Rattle.std.specs.Option.{option_map}
+use Rattle.wg_words.specs.declared.limits.TheConstants.{MOST_ENTRIES, MOST_BUFFER_WORDS, MOST_ALL_BUFFER_WORDS}
 use Rattle.wg_machine.specs.declared.launch.Sent.{Sent}
 use Rattle.wg_machine.specs.declared.shape.Shape.{Shape}
 use Rattle.wg_machine.specs.declared.shape.Unit.{Unit}
 use Rattle.wg_script.specs.declared.lines.Line.{Line}
 use Rattle.wg_script.specs.declared.lines.Line.TheVariants.{Nothing, Entry, Buffer}
 use Rattle.wg_script.specs.declared.draft.Given.{Given}
-use Rattle.wg_script.specs.declared.refusal.Refusal.{Refusal}
-use Rattle.wg_script.specs.declared.refusal.Refusal.TheVariants as refusals
 use Rattle.wg_script.specs.declared.script.ScriptFault.{ScriptFault}
 use Rattle.wg_script.specs.declared.script.ScriptFault.TheVariants as faults
-use Rattle.wg_script.specs.Naming.{node_at, entry_at, place_of}
+use Rattle.wg_script.specs.Naming.{node_place, entry_at, place_among}
 use Rattle.wg_script.specs.Rules.{grid_is_large, bool_is_bad}
 
 -- what the lines so far gave: the records, the line of each buffer, and the words of all buffers together
@@ -20,13 +19,7 @@ pub record Sofar : Type 0 where
   pub given : List (Option Given)
   pub asked : ℕ
 
--- What a reader answers is what reading gives, unless memory ran out.
-abbrev pub Gives : {X : Type 0} → Result X Refusal → Option X → Type 0
-Gives (Ok x) read = read ≡ Some x
-Gives (Err refusals.Form) read = read ≡ None
-Gives (Err refusals.Memory) read = ⊤
-
--- the same of a reader that changes a value
+-- What a step of reading answers, and leaves, is what reading gives, unless memory ran out.
 abbrev pub Adds : {X Y : Type 0} → Result X ScriptFault → Y → Result Y ScriptFault → Type 0
 Adds (Ok x) new read = read ≡ Ok new
 Adds (Err fault) new read = (fault ≡ faults.Memory) ⊎ (read ≡ Err fault)
@@ -37,16 +30,16 @@ record_fault unit words entries n =
     if not (length words == unit.words) then Some (faults.WordCount n unit.words (length words))
     else if grid_is_large unit.kind words then Some (faults.GridTooLarge n)
     else if bool_is_bad unit.bools words then Some (faults.BadBool n)
-    else if nat_le 1000000 entries then Some (faults.TooMany n)
+    else if nat_le MOST_ENTRIES entries then Some (faults.TooMany n)
     else None
 
-abbrev pub unless : {X : Type 0} → X → Option ScriptFault → Result X ScriptFault
-unless x None = Ok x
-unless x (Some fault) = Err fault
+abbrev pub unless_broken : {X : Type 0} → X → Option ScriptFault → Result X ScriptFault
+unless_broken x None = Ok x
+unless_broken x (Some fault) = Err fault
 
 abbrev pub unit_checked : Option Unit → ℕ → List ℕ → ℕ → ℕ → Result ℕ ScriptFault
 unit_checked None number words entries n = Err (faults.NotEntry n)
-unit_checked (Some unit) number words entries n = unless number (record_fault unit words entries n)
+unit_checked (Some unit) number words entries n = unless_broken number (record_fault unit words entries n)
 
 -- the entry unit that an entry line names
 abbrev pub entry_checked : Shape → Option (Option ℕ) → List ℕ → ℕ → ℕ → Result ℕ ScriptFault
@@ -54,17 +47,17 @@ entry_checked shape None words entries n = Err (faults.NoNode n)
 entry_checked shape (Some None) words entries n = Err (faults.NotEntry n)
 entry_checked shape (Some (Some number)) words entries n = unit_checked (slice_get shape.units number) number words entries n
 
-abbrev pub with_record : List ℕ → Sofar → Result ℕ ScriptFault → Result Sofar ScriptFault
-with_record words s (Err fault) = Err fault
-with_record words s (Ok unit) = Ok (record s { entries = s.entries ++ (record { unit = unit; words = words }) ∷ [] })
+abbrev pub with_entry : List ℕ → Sofar → Result ℕ ScriptFault → Result Sofar ScriptFault
+with_entry words s (Err fault) = Err fault
+with_entry words s (Ok unit) = Ok (record s { entries = s.entries ++ (record { unit = unit; words = words }) ∷ [] })
 
 abbrev pub entry_added : Shape → Option (Option ℕ) → List ℕ → ℕ → Sofar → Result Sofar ScriptFault
-entry_added shape target words n s = with_record words s (entry_checked shape target words (length s.entries) n)
+entry_added shape target words n s = with_entry words s (entry_checked shape target words (length s.entries) n)
 
 abbrev pub slot_checked : Option (Option Given) → ℕ → ℕ → ℕ → ℕ → Result ℕ ScriptFault
 slot_checked None place count asked n = Err (faults.NoBuffer n)
 slot_checked (Some (Some g)) place count asked n = Err (faults.TwiceBuffer n)
-slot_checked (Some None) place count asked n = if nat_lt (2 ^ 22) count || nat_lt (2 ^ 24) (asked + count) then Err (faults.TooMany n) else Ok place
+slot_checked (Some None) place count asked n = if nat_lt MOST_BUFFER_WORDS count || nat_lt MOST_ALL_BUFFER_WORDS (asked + count) then Err (faults.TooMany n) else Ok place
 
 abbrev pub place_checked : List (Option Given) → Option ℕ → ℕ → ℕ → ℕ → Result ℕ ScriptFault
 place_checked given None count asked n = Err (faults.NoBuffer n)
@@ -85,8 +78,8 @@ buffer_added place count words n s = with_buffer count words s (buffer_checked s
 -- what was given with one more line
 abbrev pub added : Shape → ℕ → Sofar → Line → Result Sofar ScriptFault
 added shape n s Nothing = Ok s
-added shape n s (Entry name index words) = entry_added shape (option_map (entry_at shape) (node_at shape name index)) words n s
-added shape n s (Buffer name count words) = buffer_added (place_of shape.buffers name) count words n s
+added shape n s (Entry name index words) = entry_added shape (option_map (entry_at shape) (node_place shape name index)) words n s
+added shape n s (Buffer name count words) = buffer_added (place_among shape.buffers name) count words n s
 
 -- and with a line that may have no form
 abbrev pub line_added : Shape → ℕ → Sofar → Option Line → Result Sofar ScriptFault

@@ -1,5 +1,5 @@
 -- The script that lines give. This project's own.
-use Rattle.std.specs.Prelude.{◌≡◌, ℕ, ◌-◌, ◌<◌, ◌==◌, Bool, false, if◌then◌else◌, List, [], ◌∷◌, ◌++◌, length, replicate, slice_index, Option, Some, None, unwrap_or}
+use Rattle.std.specs.Prelude.{◌≡◌, ℕ, ◌<◌, ◌==◌, Bool, false, if◌then◌else◌, List, [], ◌∷◌, length, slice_index, Option, Some, None, unwrap_or}
 use Rattle.std.specs.List.{flat_map, sum_by}
 use Rattle.wg_machine.specs.declared.launch.Sent.{Sent}
 use Rattle.wg_machine.specs.declared.shape.Shape.{Shape}
@@ -8,12 +8,13 @@ use Rattle.wg_script.specs.declared.lines.Line.{Line}
 use Rattle.wg_script.specs.declared.lines.Line.TheVariants.{Nothing, Entry, Buffer}
 use Rattle.wg_script.specs.declared.script.Script.{Script}
 use Rattle.wg_script.specs.declared.draft.Given.{Given}
-use Rattle.wg_script.specs.Naming.{unit_at, place_of}
+use Rattle.wg_words.specs.Padding.{padded}
+use Rattle.wg_script.specs.Naming.{entry_unit_at, place_among}
 
 -- an entry line hands a record to the entry unit that it names
 abbrev pub handed : Shape → Line → List Sent
 handed shape Nothing = []
-handed shape (Entry name index words) = record { unit = unwrap_or (unit_at shape name index) 0; words = words } ∷ []
+handed shape (Entry name index words) = record { unit = unwrap_or (entry_unit_at shape name index) 0; words = words } ∷ []
 handed shape (Buffer name count words) = []
 
 -- the records of the entry lines, in their order
@@ -27,7 +28,7 @@ is_place b (Some place) = place == b
 abbrev pub given_by : List (List ℕ) → ℕ → Line → Option Given
 given_by names b Nothing = None
 given_by names b (Entry name index words) = None
-given_by names b (Buffer name count words) = if is_place b (place_of names name) then Some (record { count = count; words = words }) else None
+given_by names b (Buffer name count words) = if is_place b (place_among names name) then Some (record { count = count; words = words }) else None
 
 abbrev pub or_else : {A : Type 0} → Option A → Option A → Option A
 or_else None other = other
@@ -47,22 +48,18 @@ asked_by (Buffer name count words) = count
 abbrev pub asked_of : List Line → ℕ
 asked_of said = sum_by asked_by said
 
-abbrev pub count_of : Option Given → ℕ
-count_of None = 0
-count_of (Some g) = g.count
+abbrev pub count_given : Option Given → ℕ
+count_given None = 0
+count_given (Some g) = g.count
 
 abbrev pub words_given : Option Given → List ℕ
 words_given None = []
 words_given (Some g) = g.words
 
--- words, and zeros up to a length
-abbrev pub padded : List ℕ → ℕ → List ℕ
-padded words size = words ++ replicate (size - length words) 0
-
 -- A buffer has the words of its line; those that are missing up to the line's count are zeros. Without a line it has none.
-abbrev pub buffer_of : Option Given → List ℕ
-buffer_of None = []
-buffer_of (Some g) = padded g.words g.count
+abbrev pub whole_buffer : Option Given → List ℕ
+whole_buffer None = []
+whole_buffer (Some g) = padded g.words g.count
 
 -- The script of what was said: its records, and of each buffer of the shape the length and the words given. With zeros
 -- after these it is the buffer.
@@ -70,6 +67,6 @@ pub record IsScript (shape : Shape) (said : List Line) (s : Script) : Type 0 whe
   pub entries : s.entries ≡ entries_of shape said
   pub lengths : length s.lengths ≡ length shape.buffers
   pub starts : length s.start ≡ length shape.buffers
-  pub count : (b : ℕ) → b < length shape.buffers → slice_index s.lengths b ≡ count_of (given_at shape.buffers b said)
+  pub count : (b : ℕ) → b < length shape.buffers → slice_index s.lengths b ≡ count_given (given_at shape.buffers b said)
   pub given : (b : ℕ) → b < length shape.buffers → buffer_at s.start b ≡ words_given (given_at shape.buffers b said)
-  pub zeros : (b : ℕ) → b < length shape.buffers → padded (buffer_at s.start b) (slice_index s.lengths b) ≡ buffer_of (given_at shape.buffers b said)
+  pub zeros : (b : ℕ) → b < length shape.buffers → padded (buffer_at s.start b) (slice_index s.lengths b) ≡ whole_buffer (given_at shape.buffers b said)

@@ -1,13 +1,10 @@
 -- How a text falls into lines, and a line into words. This project's own.
-use Rattle.std.specs.Prelude.{ℕ, ◌-◌, ◌==◌, Bool, true, false, if◌then◌else◌, List, [], ◌∷◌, length, take, drop, Option, Some, None, unwrap_or}
+use Rattle.std.specs.Prelude.{ℕ, ◌-◌, Bool, true, false, if◌then◌else◌, List, [], ◌∷◌, length, take, drop, Option, Some, None, unwrap_or}
 use Rattle.std.specs.List.{slice_split, filter}
 use Rattle.std.specs.Str.{bytes_eq}
-use Rattle.wg_text.specs.Cut.{is_blank}
-
-infixl 10 ◌>>=◌
-abbrev pub ◌>>=◌ : {A B : Type 0} → Option A → (A → Option B) → Option B
-None >>= f = None
-(Some x) >>= f = f x
+use Rattle.wg_words.specs.Characters.{is_line_feed}
+use Rattle.wg_text.specs.declared.cutting.Separator.TheVariants.{Blank}
+use Rattle.wg_text.specs.Cut.{separates}
 
 -- what follows a front; none where a text does not begin with it
 abbrev pub after : List ℕ → List ℕ → Option (List ℕ)
@@ -16,9 +13,6 @@ after front text = if bytes_eq (take (length front) text) front then Some (drop 
 -- what stands before an end; none where a text does not end with it
 abbrev pub before : List ℕ → List ℕ → Option (List ℕ)
 before back text = if bytes_eq (drop (length text - length back) text) back then Some (take (length text - length back) text) else None
-
-abbrev pub is_line_feed : ℕ → Bool
-is_line_feed c = c == 10
 
 -- a line without the carriage return at its end
 abbrev pub without_return : List ℕ → List ℕ
@@ -39,5 +33,5 @@ is_some_text [] = false
 is_some_text (c ∷ text) = true
 
 -- the words of a line: what stands between its blanks, where that is not nothing
-abbrev pub words_of : List ℕ → List (List ℕ)
-words_of line = filter is_some_text (slice_split is_blank line)
+abbrev pub line_words : List ℕ → List (List ℕ)
+line_words line = filter is_some_text (slice_split (separates Blank) line)

@@ -1,16 +1,11 @@
 ghost use Rattle.std.specs.Prelude.{◌≡◌, ◌<◌, ◌^◌};
 ghost use Rattle.wg_script.specs.Rules.{is_above as is_above_most, grid_is_large as is_large, bool_is_bad as is_bad};
-ghost use Rattle.wg_script.specs.Reading.{unless, record_fault, entry_checked, buffer_checked};
+ghost use Rattle.wg_script.specs.Reading.{unless_broken, record_fault, entry_checked, buffer_checked};
 
 use crate::ScriptFault;
 use crate::draft::Given;
 use wg_machine::{Kind, Shape, Unit};
-
-const MOST_ENTRIES: usize = 1_000_000;
-
-const MOST_WORDS: u32 = 1 << 22;
-
-const MOST_WORDS_IN_ALL: u64 = 1 << 24;
+use wg_words::limits::{MOST_ALL_BUFFER_WORDS, MOST_BUFFER_WORDS, MOST_ENTRIES};
 
 /// Whether a component of a grid, where the record has it, is above the most.
 fn is_above(first: u32, parts: u32, words: &[u32], place: u32, most: u32) -> bool
@@ -54,7 +49,7 @@ fn bool_is_bad(places: &[u32], words: &[u32]) -> bool
 
 /// The first rule that a record of a unit breaks, after so many entries.
 fn check_record(unit: &Unit, words: &[u32], entries: usize, line: u64) -> Result<(), ScriptFault>
-    ensures { result ≡ unless tt (record_fault unit.now words.now entries line) }
+    ensures { result ≡ unless_broken tt (record_fault unit.now words.now entries line) }
 {
     if words.len() != unit.words as usize {
         return Err(ScriptFault::WordCount {
@@ -94,10 +89,8 @@ pub fn check_entry(
     let Some(unit) = shape.units.get(number as usize) else {
         return Err(ScriptFault::NotEntry { line });
     };
-    match check_record(unit, words, entries, line) {
-        Ok(()) => Ok(number),
-        Err(fault) => Err(fault),
-    }
+    check_record(unit, words, entries, line)?;
+    Ok(number)
 }
 
 /// The place of the buffer that a buffer line names, where the line breaks no rule.
@@ -127,7 +120,7 @@ pub fn check_buffer(
         Some(Some(_)) => return Err(ScriptFault::TwiceBuffer { line }),
         Some(None) => (),
     }
-    if count > MOST_WORDS || asked + u64::from(count) > MOST_WORDS_IN_ALL {
+    if count > MOST_BUFFER_WORDS || asked + u64::from(count) > u64::from(MOST_ALL_BUFFER_WORDS) {
         return Err(ScriptFault::TooMany { line });
     }
     Ok(place)

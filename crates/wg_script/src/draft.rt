@@ -1,7 +1,7 @@
 ghost use Rattle.std.specs.Prelude.{◌≡◌, [], None, length, map, replicate, IfOk};
 ghost use Rattle.wg_script.specs.Reading.{Adds, entry_added, buffer_added, added};
-ghost use Rattle.wg_script.specs.Names.{IsNaming};
-ghost use Rattle.wg_script.specs.Script.{count_of, words_given};
+ghost use Rattle.wg_script.specs.Names.{NamesShape};
+ghost use Rattle.wg_script.specs.Script.{count_given, words_given};
 
 use crate::checks::{check_buffer, check_entry};
 use crate::lines::Line;
@@ -29,14 +29,15 @@ pub struct Draft {
 }
 
 impl Model for Draft {
-    ghost use Rattle.std.specs.Prelude.{◌≤◌, ◌^◌};
+    ghost use Rattle.std.specs.Prelude.{◌≤◌};
+    ghost use Rattle.wg_words.specs.declared.limits.TheConstants.{MOST_ALL_BUFFER_WORDS};
     ghost use Rattle.wg_script.specs.Reading.{Sofar};
 
     ghost Value = { Sofar };
 
     ghost view = { λ d. record { entries = d.entries; given = d.given.items; asked = d.asked } };
 
-    ghost invariant = { λ d. d.asked ≤ 2 ^ 24 };
+    ghost invariant = { λ d. d.asked ≤ MOST_ALL_BUFFER_WORDS };
 }
 
 impl Draft {
@@ -64,10 +65,8 @@ impl Draft {
     ) -> Result<(), ScriptFault>
         ensures { Adds result self.new (entry_added shape.now target words line self.old) }
     {
-        match check_entry(shape, target, words.as_slice(), self.entries.len(), line) {
-            Ok(unit) => self.entries.push(Sent { unit, words })?,
-            Err(fault) => return Err(fault),
-        }
+        let unit = check_entry(shape, target, words.as_slice(), self.entries.len(), line)?;
+        self.entries.push(Sent { unit, words })?;
         Ok(())
     }
 
@@ -80,21 +79,16 @@ impl Draft {
     ) -> Result<(), ScriptFault>
         ensures { Adds result self.new (buffer_added place count words line self.old) }
     {
-        let checked = check_buffer(
+        let place = check_buffer(
             self.given.as_slice(),
             place,
             count,
             words.as_slice(),
             self.asked,
             line,
-        );
-        match checked {
-            Ok(place) => {
-                let _ = mem::replace(&mut self.given[place], Some(Given { count, words }));
-                self.asked += u64::from(count);
-            }
-            Err(fault) => return Err(fault),
-        }
+        )?;
+        let _ = mem::replace(&mut self.given[place], Some(Given { count, words }));
+        self.asked += u64::from(count);
         Ok(())
     }
 
@@ -107,7 +101,7 @@ impl Draft {
         said: Line,
         line: u64,
     ) -> Result<(), ScriptFault>
-        requires { IsNaming shape.now names.now }
+        requires { NamesShape shape.now names.now }
         ensures { Adds result self.new (added shape.now line self.old said) }
     {
         match said {
@@ -124,7 +118,7 @@ impl Draft {
 
     /// The script of all lines.
     pub fn finish(self, alloc: Global) -> Result<Script, AllocError>
-        ensures { IfOk result (λ script. script ≡ record { entries = self.entries; lengths = map count_of self.given; start = map words_given self.given }) }
+        ensures { IfOk result (λ script. script ≡ record { entries = self.entries; lengths = map count_given self.given; start = map words_given self.given }) }
     {
         let Draft { entries, given, .. } = self;
         let mut lengths = Words::new(alloc);

@@ -1,10 +1,8 @@
 ghost use Rattle.std.specs.Prelude.{◌≡◌, [], ◌∷◌, MatchOption};
-ghost use Rattle.std.specs.List.{slice_split};
-ghost use Rattle.wg_text.specs.Cut.{is_blank};
-ghost use Rattle.wg_script.specs.Words.{without_return as unreturned, lines_of, words_of};
+ghost use Rattle.wg_script.specs.Words.{without_return as unreturned, lines_of, line_words};
 
 use std::marker::Model;
-use wg_text::{cut, cut_at_blank};
+use wg_text::{Pieces, Separator};
 
 /// A line without the carriage return at its end.
 fn without_return(line: &[u8]) -> &[u8]
@@ -16,17 +14,16 @@ fn without_return(line: &[u8]) -> &[u8]
 /// The lines of a text that are left.
 #[derive(Drop)]
 pub struct Lines<'a> {
-    rest: &'a [u8],
-    ended: bool,
+    pieces: Pieces<'a>,
 }
 
 impl<'a> Model for Lines<'a> {
-    ghost use Rattle.std.specs.Prelude.{List, ℕ, [], if◌then◌else◌};
-    ghost use Rattle.wg_script.specs.Words.{lines_of};
+    ghost use Rattle.std.specs.Prelude.{List, ℕ};
+    ghost use Rattle.wg_script.specs.Words.{lines_from};
 
     ghost Value = { List (List ℕ) };
 
-    ghost view = { λ l. if l.ended then [] else lines_of l.rest.now };
+    ghost view = { λ l. lines_from l.pieces };
 }
 
 impl<'a> Lines<'a> {
@@ -34,65 +31,18 @@ impl<'a> Lines<'a> {
         ensures { result ≡ lines_of text.now }
     {
         Lines {
-            rest: text,
-            ended: false,
+            pieces: Pieces::new(text, Separator::Byte(b'\n')),
         }
     }
 
     pub fn next(&mut self) -> Option<&'a [u8]>
         ensures { MatchOption result ((self.old ≡ []) × (self.new ≡ [])) (λ line. self.old ≡ line.now ∷ self.new) }
     {
-        if self.ended {
-            return None;
+        let line = self.pieces.next()?;
+        if self.pieces.is_empty() {
+            return Some(line);
         }
-        let Some((line, rest)) = cut(self.rest, b'\n') else {
-            self.ended = true;
-            return Some(self.rest);
-        };
-        self.rest = rest;
         Some(without_return(line))
-    }
-}
-
-/// The pieces of a line that are left, apart by single blanks; a piece may be empty.
-#[derive(Drop)]
-struct Pieces<'a> {
-    rest: &'a [u8],
-    ended: bool,
-}
-
-impl<'a> Model for Pieces<'a> {
-    ghost use Rattle.std.specs.Prelude.{List, ℕ, [], if◌then◌else◌};
-    ghost use Rattle.std.specs.List.{slice_split};
-    ghost use Rattle.wg_text.specs.Cut.{is_blank};
-
-    ghost Value = { List (List ℕ) };
-
-    ghost view = { λ p. if p.ended then [] else slice_split is_blank p.rest.now };
-}
-
-impl<'a> Pieces<'a> {
-    fn new(line: &'a [u8]) -> Pieces<'a>
-        ensures { result ≡ slice_split is_blank line.now }
-    {
-        Pieces {
-            rest: line,
-            ended: false,
-        }
-    }
-
-    fn next(&mut self) -> Option<&'a [u8]>
-        ensures { MatchOption result ((self.old ≡ []) × (self.new ≡ [])) (λ piece. self.old ≡ piece.now ∷ self.new) }
-    {
-        if self.ended {
-            return None;
-        }
-        let Some((piece, rest)) = cut_at_blank(self.rest) else {
-            self.ended = true;
-            return Some(self.rest);
-        };
-        self.rest = rest;
-        Some(piece)
     }
 }
 
@@ -114,10 +64,10 @@ impl<'a> Model for LineWords<'a> {
 
 impl<'a> LineWords<'a> {
     pub fn new(line: &'a [u8]) -> LineWords<'a>
-        ensures { result ≡ words_of line.now }
+        ensures { result ≡ line_words line.now }
     {
         LineWords {
-            pieces: Pieces::new(line),
+            pieces: Pieces::new(line, Separator::Blank),
         }
     }
 

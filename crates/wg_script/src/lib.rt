@@ -8,7 +8,6 @@ mod lines;
 mod names;
 mod numbers;
 mod reading;
-mod refusal;
 mod script;
 
 pub use reading::read_script;

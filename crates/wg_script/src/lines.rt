@@ -1,13 +1,12 @@
 ghost use Rattle.std.specs.Prelude.{◌≡◌};
-ghost use Rattle.wg_script.specs.Lines.{all_words, entry_of, start_of, counted as counted_of, buffer_of, said_by_words, said_of, is_title as is_title_of};
-ghost use Rattle.wg_script.specs.Reading.{Gives};
-ghost use Rattle.wg_script.specs.Words.{words_of};
+ghost use Rattle.wg_script.specs.Lines.{all_words, entry_said, start_of, count_said as counted_of, buffer_said, said_by_words, said_of, is_title as is_title_of};
+ghost use Rattle.wg_text.specs.Refusals.{Yields};
+ghost use Rattle.wg_script.specs.Words.{line_words};
 
 use crate::fields::LineWords;
-use crate::numbers::{number, target, word};
-use crate::refusal::Refusal;
+use crate::numbers::{target, word};
 use std::alloc::Global;
-use wg_text::is_identifier;
+use wg_text::{Refusal, is_identifier};
 use wg_words::{Name, Words};
 
 /// What a line of a script says. A comment and a line of blanks say nothing.
@@ -28,7 +27,7 @@ pub enum Line {
 
 /// The words of 32 bits that all that is left of a line gives.
 fn words(alloc: Global, fields: &mut LineWords<'_>) -> Result<Words, Refusal>
-    ensures { Gives result (all_words fields.old) }
+    ensures { Yields result (all_words fields.old) }
 {
     let mut words = Words::new(alloc);
     while let Some(field) = fields.next() {
@@ -39,7 +38,7 @@ fn words(alloc: Global, fields: &mut LineWords<'_>) -> Result<Words, Refusal>
 
 /// What follows `entry`.
 fn entry(alloc: Global, fields: &mut LineWords<'_>) -> Result<Line, Refusal>
-    ensures { Gives result (entry_of fields.old) }
+    ensures { Yields result (entry_said fields.old) }
 {
     let field = fields.next().ok_or(Refusal::Form)?;
     let (name, index) = target(field).ok_or(Refusal::Form)?;
@@ -50,7 +49,7 @@ fn entry(alloc: Global, fields: &mut LineWords<'_>) -> Result<Line, Refusal>
 
 /// Nothing, or `:` and words.
 fn start(alloc: Global, fields: &mut LineWords<'_>) -> Result<Words, Refusal>
-    ensures { Gives result (start_of fields.old) }
+    ensures { Yields result (start_of fields.old) }
 {
     let Some(field) = fields.next() else {
         return Ok(Words::new(alloc));
@@ -63,10 +62,10 @@ fn start(alloc: Global, fields: &mut LineWords<'_>) -> Result<Words, Refusal>
 
 /// What follows `buffer` and its name.
 fn counted(alloc: Global, name: &[u8], fields: &mut LineWords<'_>) -> Result<Line, Refusal>
-    ensures { Gives result (counted_of name.now fields.old) }
+    ensures { Yields result (counted_of name.now fields.old) }
 {
     let field = fields.next().ok_or(Refusal::Form)?;
-    let count = number(field, 10).ok_or(Refusal::Form)?;
+    let count = wg_text::word(field, 10).ok_or(Refusal::Form)?;
     let words = start(alloc, fields)?;
     let name = Name::from_slice(alloc, name)?;
     Ok(Line::Buffer { name, count, words })
@@ -74,7 +73,7 @@ fn counted(alloc: Global, name: &[u8], fields: &mut LineWords<'_>) -> Result<Lin
 
 /// What follows `buffer`.
 fn buffer(alloc: Global, fields: &mut LineWords<'_>) -> Result<Line, Refusal>
-    ensures { Gives result (buffer_of fields.old) }
+    ensures { Yields result (buffer_said fields.old) }
 {
     let name = fields.next().ok_or(Refusal::Form)?;
     if !is_identifier(name) {
@@ -84,7 +83,7 @@ fn buffer(alloc: Global, fields: &mut LineWords<'_>) -> Result<Line, Refusal>
 }
 
 fn line_of_words(alloc: Global, fields: &mut LineWords<'_>) -> Result<Line, Refusal>
-    ensures { Gives result (said_by_words fields.old) }
+    ensures { Yields result (said_by_words fields.old) }
 {
     let Some(first) = fields.next() else {
         return Ok(Line::Nothing);
@@ -100,7 +99,7 @@ fn line_of_words(alloc: Global, fields: &mut LineWords<'_>) -> Result<Line, Refu
 
 /// What a line after the first says.
 pub fn line_of(alloc: Global, line: &[u8]) -> Result<Line, Refusal>
-    ensures { Gives result (said_of line.now) }
+    ensures { Yields result (said_of line.now) }
 {
     if line.strip_prefix(b"//").is_some() {
         return Ok(Line::Nothing);
@@ -110,7 +109,7 @@ pub fn line_of(alloc: Global, line: &[u8]) -> Result<Line, Refusal>
 
 /// Whether a line is the title, `script 1`.
 pub fn is_title(line: &[u8]) -> bool
-    ensures { result ≡ is_title_of (words_of line.now) }
+    ensures { result ≡ is_title_of (line_words line.now) }
 {
     let mut fields = LineWords::new(line);
     let Some(first) = fields.next() else {

@@ -1,8 +1,8 @@
 ghost use Rattle.std.specs.Prelude.{◌≡◌, ◌<◌, ◌^◌, ℕ, List, length, IfOk, OnOk};
 ghost use Rattle.std.specs.Option.{option_map};
-ghost use Rattle.wg_script.specs.Naming.{is_entry_of as takes_entries, entry_at, node_at, place_of};
+ghost use Rattle.wg_script.specs.Naming.{is_entry_of as takes_entries, entry_at, node_place, place_among};
 ghost use Rattle.wg_text.specs.Names.{found_in};
-ghost use Rattle.wg_script.specs.Names.{IsNaming, node_key as node_key_of, node_in, buffer_in};
+ghost use Rattle.wg_script.specs.Names.{NamesShape, node_key as node_key_of, node_in, buffer_in};
 
 use std::alloc::{AllocError, Global};
 use wg_machine::{Shape, Unit};
@@ -48,7 +48,7 @@ fn entry_unit(shape: &Shape, node: usize) -> Option<u32>
 /// The nodes by their keys. The first of equal ones is put last, and stays.
 fn node_map(alloc: Global, shape: &Shape) -> Result<NameMap<Option<u32>>, AllocError>
     requires { length shape.now.units < 2 ^ 32 }
-    ensures { IfOk result (λ map. (name : List ℕ) (index : ℕ) → index < 2 ^ 32 → found_in map (node_key_of name index) ≡ option_map (entry_at shape.now) (node_at shape.now name index)) }
+    ensures { IfOk result (λ map. (name : List ℕ) (index : ℕ) → index < 2 ^ 32 → found_in map (node_key_of name index) ≡ option_map (entry_at shape.now) (node_place shape.now name index)) }
 {
     let nodes = shape.nodes.as_slice();
     let mut map = NameMap::new(alloc);
@@ -64,7 +64,7 @@ fn node_map(alloc: Global, shape: &Shape) -> Result<NameMap<Option<u32>>, AllocE
 
 /// The buffers by their names.
 fn buffer_map(alloc: Global, names: &[Name]) -> Result<NameMap<usize>, AllocError>
-    ensures { IfOk result (λ map. (name : List ℕ) → found_in map name ≡ place_of names.now name) }
+    ensures { IfOk result (λ map. (name : List ℕ) → found_in map name ≡ place_among names.now name) }
 {
     let mut map = NameMap::new(alloc);
     let mut place = names.len();
@@ -79,7 +79,7 @@ fn buffer_map(alloc: Global, names: &[Name]) -> Result<NameMap<usize>, AllocErro
 impl ScriptNames {
     pub fn new(alloc: Global, shape: &Shape) -> Result<ScriptNames, AllocError>
         requires { length shape.now.units < 2 ^ 32 }
-        ensures { IfOk result (λ names. IsNaming shape.now names) }
+        ensures { IfOk result (λ names. NamesShape shape.now names) }
     {
         let nodes = node_map(alloc, shape)?;
         let buffers = buffer_map(alloc, shape.buffers.as_slice())?;

@@ -1,10 +1,10 @@
 ghost use Rattle.std.specs.Prelude.{◌≡◌, ◌≢◌, ◌<◌, ◌^◌, length, IfOk, Err};
 ghost use Rattle.wg_machine.specs.GoodShape.{IsGoodShape};
-ghost use Rattle.wg_script.specs.declared.script.ScriptFault.{ScriptFault as Fault};
+ghost use Rattle.wg_script.specs.declared.script.ScriptFault.{ScriptFault as ScriptFaultOf};
 ghost use Rattle.wg_script.specs.declared.script.ScriptFault.TheVariants.{Memory};
 ghost use Rattle.wg_script.specs.Fit.{IsFit};
 ghost use Rattle.wg_script.specs.Lines.{all_said, said_of};
-ghost use Rattle.wg_script.specs.Names.{IsNaming};
+ghost use Rattle.wg_script.specs.Names.{NamesShape};
 ghost use Rattle.wg_script.specs.Reading.{Adds, line_added};
 ghost use Rattle.wg_script.specs.Rules.{AreGood, IsFirstFault};
 ghost use Rattle.wg_script.specs.Script.{IsScript};
@@ -14,10 +14,10 @@ use crate::draft::Draft;
 use crate::fields::Lines;
 use crate::lines::{is_title, line_of};
 use crate::names::ScriptNames;
-use crate::refusal::Refusal;
 use crate::{Script, ScriptFault};
 use std::alloc::Global;
-use wg_machine::Shape;
+use wg_machine::{Shape, few_units};
+use wg_text::Refusal;
 
 /// Takes a line after the first into a draft. After an error the draft is only dropped.
 fn add_line(
@@ -28,7 +28,7 @@ fn add_line(
     text: &[u8],
     line: u64,
 ) -> Result<(), ScriptFault>
-    requires { IsNaming shape.now names.now }
+    requires { NamesShape shape.now names.now }
     ensures { Adds result draft.new (line_added shape.now line draft.old (said_of text.now)) }
 {
     match line_of(alloc, text) {
@@ -44,8 +44,8 @@ pub(crate) fn read_lines(alloc: Global, text: &[u8], shape: &Shape) -> Result<Sc
     ensures good { IfOk result (λ _. AreGood shape.now (lines_of text.now)) }
     ensures script { IfOk result (IsScript shape.now (all_said (lines_of text.now))) }
     ensures fit { IfOk result (IsFit shape.now) }
-    ensures only { AreGood shape.now (lines_of text.now) → (fault : Fault) → result ≡ Err fault → fault ≡ Memory }
-    ensures fault { (fault : Fault) → result ≡ Err fault → fault ≢ Memory → IsFirstFault shape.now text.now fault }
+    ensures only { AreGood shape.now (lines_of text.now) → (fault : ScriptFaultOf) → result ≡ Err fault → fault ≡ Memory }
+    ensures fault { (fault : ScriptFaultOf) → result ≡ Err fault → fault ≢ Memory → IsFirstFault shape.now text.now fault }
 {
     let names = ScriptNames::new(alloc, shape)?;
     let mut draft = Draft::new(alloc, shape.buffers.len())?;
@@ -59,10 +59,7 @@ pub(crate) fn read_lines(alloc: Global, text: &[u8], shape: &Shape) -> Result<Sc
     let mut number = 1u64;
     while let Some(line) = lines.next() {
         number += 1;
-        match add_line(alloc, shape, &names, &mut draft, line, number) {
-            Ok(()) => (),
-            Err(fault) => return Err(fault),
-        }
+        add_line(alloc, shape, &names, &mut draft, line, number)?;
     }
     Ok(draft.finish(alloc)?)
 }
@@ -81,10 +78,11 @@ pub fn read_script(alloc: Global, text: &[u8], shape: &Shape) -> Result<Script, 
     ensures fit { IfOk result (IsFit shape.now) }
 
     // A text whose lines break no rule is read, unless memory runs out.
-    ensures only { AreGood shape.now (lines_of text.now) → (fault : Fault) → result ≡ Err fault → fault ≡ Memory }
+    ensures only { AreGood shape.now (lines_of text.now) → (fault : ScriptFaultOf) → result ≡ Err fault → fault ≡ Memory }
 
     // Which line breaks a rule first, and which rule.
-    ensures fault { (fault : Fault) → result ≡ Err fault → fault ≢ Memory → IsFirstFault shape.now text.now fault }
+    ensures fault { (fault : ScriptFaultOf) → result ≡ Err fault → fault ≢ Memory → IsFirstFault shape.now text.now fault }
 {
+    few_units();
     read_lines(alloc, text, shape)
 }

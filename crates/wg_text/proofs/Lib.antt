@@ -1,2 +1,4 @@
 mod CutLemmas
 mod MapLemmas
+mod NumberLemmas
+mod PieceLemmas

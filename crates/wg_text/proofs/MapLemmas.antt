@@ -8,13 +8,13 @@ use Rattle.std.specs.Cmp.Lexicographic.{pointwise, nat_list_eq_equiv}
 use Rattle.std.specs.Str.{bytes_eq}
 use Rattle.std.proofs.lemmas.Bool.{cases_Bool, cond-true, cond-false}
 use Rattle.std.proofs.lemmas.Slice.Eq.{bytes_eq-Decides}
-use Rattle.wg_text.specs.Names.{named, found_in}
+use Rattle.wg_text.specs.Names.{by_names, found_in}
 
 -- what a map has for a name
 abbrev pub look_up : {X : Type 0} → List (Vec ℕ × X) → List ℕ → Option X
 look_up entries name = lookup (λ (k : Vec ℕ). bytes_eq name k.items) entries
 
-pub found_lookup : {X : Type 0} (entries : List (Vec ℕ × X)) (name : List ℕ) → found_in (named entries) name ≡ look_up entries name
+pub found_lookup : {X : Type 0} (entries : List (Vec ℕ × X)) (name : List ℕ) → found_in (by_names entries) name ≡ look_up entries name
 found_lookup [] name = refl
 found_lookup (e ∷ entries) name = ap (λ r. if bytes_eq name e.0.items then Some e.1 else r) (found_lookup entries name)
 
@@ -39,6 +39,6 @@ look_up_after {X} old new k x h name = ⊎_elim here other (cases_Bool (bytes_eq
         ∙ sym (cond-false (bytes_eq k.items name) (Some x) (look_up old.entries name) f)
 
 pub found_after : {X S : Type 0} (old new : HashMap (Vec ℕ) X S) (k : Vec ℕ) (x : X) → UpdatesBy (λ (a b : Vec ℕ). pointwise nat_eq a.items b.items) (λ (b : Vec ℕ). pointwise nat_eq k.items b.items) old new (Some x)
-    → (name : List ℕ) → found_in (named new.entries) name ≡ (if bytes_eq k.items name then Some x else found_in (named old.entries) name)
+    → (name : List ℕ) → found_in (by_names new.entries) name ≡ (if bytes_eq k.items name then Some x else found_in (by_names old.entries) name)
 found_after {X} old new k x h name =
     found_lookup new.entries name ∙ (look_up_after old new k x h name ∙ sym (ap (λ (r : Option X). if bytes_eq k.items name then Some x else r) (found_lookup old.entries name)))

@@ -1,6 +1,6 @@
-ghost use Rattle.std.specs.Prelude.{◌≡◌, ◌||◌};
+ghost use Rattle.std.specs.Prelude.{◌≡◌};
 ghost use Rattle.std.specs.List.{list_all};
-ghost use Rattle.wg_machine.specs.GoodShape.{is_digit, is_letter as is_letter_byte, is_identifier as is_name};
+ghost use Rattle.wg_words.specs.Characters.{is_letter as is_letter_byte, is_word as is_word_byte, is_identifier as is_name};
 
 fn is_letter(byte: u8) -> bool
     ensures { result ≡ is_letter_byte byte }
@@ -9,7 +9,7 @@ fn is_letter(byte: u8) -> bool
 }
 
 fn continues_name(bytes: &[u8]) -> bool
-    ensures { result ≡ list_all (λ b. is_letter_byte b || is_digit b) bytes.now }
+    ensures { result ≡ list_all is_word_byte bytes.now }
 {
     bytes
         .iter()

@@ -1,13 +1,19 @@
-//! What lines of text are read with: cuts at a byte, names of HLSL, and values by names.
+//! What texts are read with: cuts and pieces, numbers, names of HLSL, and values by names.
 #![tactic(auto)]
 
 mod cutting;
 mod identifier;
 mod name_map;
+mod numbers;
+mod pieces;
+mod refusal;
 
-pub use cutting::{cut, cut_at_blank};
+pub use cutting::{Separator, cut};
 pub use identifier::is_identifier;
 pub use name_map::NameMap;
+pub use numbers::{number, printed, word};
+pub use pieces::Pieces;
+pub use refusal::Refusal;
 
 #[cfg(test)]
 mod tests;

@@ -10,11 +10,11 @@ pub struct NameMap<X> {
 
 impl<X> Model for NameMap<X> {
     ghost use Rattle.std.specs.Prelude.{ℕ, List};
-    ghost use Rattle.wg_text.specs.Names.{named};
+    ghost use Rattle.wg_text.specs.Names.{by_names};
 
     ghost Value = { List (List ℕ × X) };
 
-    ghost view = { λ m. named m.by_name.entries };
+    ghost view = { λ m. by_names m.by_name.entries };
 }
 
 impl<X: Copy + Drop> NameMap<X> {

@@ -10,7 +10,7 @@ is_line_feed b = b == 10
 
 -- a letter or `_`
 abbrev pub is_letter : ℕ → Bool
-is_letter b = is_between 97 122 b || is_between 65 90 b || b == 95
+is_letter b = is_between 65 90 b || is_between 97 122 b || b == 95
 
 abbrev pub is_digit : ℕ → Bool
 is_digit b = is_between 48 57 b

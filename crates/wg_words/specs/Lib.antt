@@ -1,5 +1,6 @@
 pub mod Characters
 pub mod Each
 pub mod Maybe
+pub mod Padding
 pub mod Truth
 pub mod Words

@@ -1,4 +1,5 @@
 use Rattle.std.proofs.Common.{◌≡◌, ◌∙◌, [], ℕ, List, None, Result, Err, length, replicate, sym, ap, subst, ⊎_elim, arith}
+use Rattle.std.specs.Result.{IsErr, IsErrAnd}
 use Rattle.wg_script.specs.declared.script.Script.{Script}
 use Rattle.wg_script.specs.declared.script.ScriptFault.{ScriptFault}
 use Rattle.wg_script.specs.declared.script.ScriptFault.TheVariants as faults
@@ -18,6 +19,10 @@ failed f = Err f
 
 fault_is : {f g : ScriptFault} → failed f ≡ failed g → f ≡ g
 fault_is e = cc
+
+-- what holds of an error
+err_and : (P : ScriptFault → Type 0) (r : Result Script ScriptFault) (f : ScriptFault) → r ≡ Err f → IsErr r × IsErrAnd r P → P f
+err_and P r f e h = subst (λ (s : Result Script ScriptFault). IsErrAnd s P) e h.1
 
 pub returns-in_default-clause-fault : goal.returns-in_default-clause-fault
 returns-in_default-clause-fault c = λ fault e ne. absurd (lines_some c.args.text.now (sym c.new-lines.ensures ∙ c.in_default.ensures.0))
@@ -42,16 +47,19 @@ overflow_add-number c =
 pub loop-line-preserved : goal.loop-line-preserved
 loop-line-preserved c =
     goes_on c.args.shape.now c.args.text.now c.loop-line.draft c.add_line.new.draft c.in-Some-next.line.now c.next-in-loop-line.new.self c.loop-line.number
-    (subst (λ (l : List (List ℕ)). Goes c.args.shape.now c.args.text.now c.loop-line.draft l c.loop-line.number) c.in-Some-next.ensures c.loop-line.invariant) c.in-Ok.ensures
+    (subst (λ (l : List (List ℕ)). Goes c.args.shape.now c.args.text.now c.loop-line.draft l c.loop-line.number) c.in-Some-next.ensures c.loop-line.invariant) c.in_ok-add_line.ensures
 
-pub returns-in-Err-clause-fault : goal.returns-in-Err-clause-fault
-returns-in-Err-clause-fault c = λ fault e ne. ⊎_elim
-    (λ memory. absurd (ne (sym (fault_is e) ∙ memory)))
+pub returns-in_err-add_line-clause-fault : goal.returns-in_err-add_line-clause-fault
+returns-in_err-add_line-clause-fault c = λ fault e ne.
+    (let own = c.in_err-add_line.field-0.0 in
+    let same : own ≡ fault = sym (err_and _ _ fault e c.from_residual-in_err-add_line.ensures) in
+    ⊎_elim
+    (λ memory. absurd (ne (sym same ∙ memory)))
     (λ wrong.
-    (subst (IsFirstFault c.args.shape.now c.args.text.now) (fault_is e)
-    (goes_wrong c.args.shape.now c.args.text.now c.loop-line.draft c.in-Some-next.line.now c.next-in-loop-line.new.self c.loop-line.number c.in-Err.fault
+    (subst (IsFirstFault c.args.shape.now c.args.text.now) same
+    (goes_wrong c.args.shape.now c.args.text.now c.loop-line.draft c.in-Some-next.line.now c.next-in-loop-line.new.self c.loop-line.number own
     (subst (λ (l : List (List ℕ)). Goes c.args.shape.now c.args.text.now c.loop-line.draft l c.loop-line.number) c.in-Some-next.ensures c.loop-line.invariant) wrong)))
-    c.in-Err.ensures
+    c.in_err-add_line.ensures)
 
 pub returns-clause-good : goal.returns-clause-good
 returns-clause-good c =
@@ -75,11 +83,14 @@ returns-then-not-is_title-clause-only c = λ good fault e.
     (absurd (not_good c.args.shape.now c.args.text.now (faults.Form 1)
     (title_fault c.args.shape.now c.args.text.now c.in-Some.title.now c.next.new.self (sym c.new-lines.ensures ∙ c.in-Some.ensures) (sym c.is_title.ensures ∙ c.if-not-is_title.true)) good))
 
-pub returns-in-Err-clause-only : goal.returns-in-Err-clause-only
-returns-in-Err-clause-only c = λ good fault e. ⊎_elim
-    (λ memory. sym (fault_is e) ∙ memory)
+pub returns-in_err-add_line-clause-only : goal.returns-in_err-add_line-clause-only
+returns-in_err-add_line-clause-only c = λ good fault e.
+    (let own = c.in_err-add_line.field-0.0 in
+    let same : own ≡ fault = sym (err_and _ _ fault e c.from_residual-in_err-add_line.ensures) in
+    ⊎_elim
+    (λ memory. sym same ∙ memory)
     (λ wrong.
-    (absurd (not_good c.args.shape.now c.args.text.now c.in-Err.fault
-    (goes_wrong c.args.shape.now c.args.text.now c.loop-line.draft c.in-Some-next.line.now c.next-in-loop-line.new.self c.loop-line.number c.in-Err.fault
+    (absurd (not_good c.args.shape.now c.args.text.now own
+    (goes_wrong c.args.shape.now c.args.text.now c.loop-line.draft c.in-Some-next.line.now c.next-in-loop-line.new.self c.loop-line.number own
     (subst (λ (l : List (List ℕ)). Goes c.args.shape.now c.args.text.now c.loop-line.draft l c.loop-line.number) c.in-Some-next.ensures c.loop-line.invariant) wrong) good)))
-    c.in-Err.ensures
+    c.in_err-add_line.ensures)

@@ -1,8 +1,0 @@
-use Rattle.std.proofs.Common.{◌≡◌, take, drop}
-use Rattle.wg_text.specs.Cut.{cut, is_blank}
-use Rattle.wg_text.proofs.CutLemmas.{with_front}
-use Rattle.wg_text.proofs.cutting.cut_at_blank.Given as goal
-
--- what was passed, and the cut of what is left, are the cut of all
-abbrev pub invariant-loop-end : goal.invariant-loop-end
-invariant-loop-end l = with_front (take l.end l.text) (cut is_blank (drop l.end l.text)) ≡ cut is_blank l.text

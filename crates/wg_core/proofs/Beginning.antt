@@ -1,5 +1,5 @@
 -- A core at the start of a script is sound.
-use Rattle.std.proofs.Common.{◌≡◌, ℕ, zero, suc, ◌+◌, ◌≤◌, false, List, [], ◌∷◌, length, refl, ap, sym, ◌∙◌, subst, arith, None}
+use Rattle.std.proofs.Common.{◌≡◌, ℕ, zero, suc, ◌+◌, ◌≤◌, false, List, [], ◌∷◌, ◌++◌, length, refl, ap, sym, ◌∙◌, subst, arith, None}
 use Rattle.std.specs.Prelude.{filter, nat_le, replicate, slice_index}
 use Rattle.std.specs.List.{flat_map}
 use Rattle.std.proofs.lemmas.Bool.Decides.{nat_tests}
@@ -40,16 +40,21 @@ nothing_waits handed v (suc n) = ap (λ (rest : List (List Live)). [] ∷ rest) 
 
 pub begun_view : (shape : Shape) (width : ℕ) (limits : Limits) (script : List Sent) → AllThread shape → view_of (begun_store shape width script) limits [] (length script) [] 0 0 0 None ≡ core_begun shape width limits script []
 begun_view shape width limits script threads =
-    ap (λ (ws : List (List Live)). (let c : CoreView = record (core_begun shape width limits script []) { waits = ws; entries = thread_born 0 script } in c)) (nothing_waits (length script) 0 (length shape.units))
-    ∙ ap (λ (es : List Live). (let c : CoreView = record (core_begun shape width limits script []) { entries = es } in c)) (sym (born_is shape threads 0 script))
+    ap (λ (ws : List (List Live)). (let c : CoreView = record (core_begun shape width limits script []) { bag = thread_born 0 script ++ []; waits = ws; entries = thread_born 0 script } in c)) (nothing_waits (length script) 0 (length shape.units))
+    ∙ ap (λ (b : List Live). (let c : CoreView = record (core_begun shape width limits script []) { bag = b; entries = thread_born 0 script } in c)) (no_more (thread_born 0 script))
+    ∙ ap (λ (es : List Live). (let c : CoreView = record (core_begun shape width limits script []) { bag = es; entries = es } in c)) (sym (born_is shape threads 0 script))
+  where
+    no_more : (xs : List Live) → xs ++ [] ≡ xs
+    no_more [] = refl
+    no_more (x ∷ xs) = ap (λ (rest : List Live). x ∷ rest) (no_more xs)
 
-pub begun_sound : BeginningsPlace → (shape : Shape) (width : ℕ) (limits : Limits) (script : List Sent) (places : ℕ) → IsGoodShape shape → AllThread shape → 1 ≤ width → Each (Arrives shape) script → length script ≤ 1000000 → limits.launches ≤ 10000000 → IsSoundCore (begun_store shape width script) (view_of (begun_store shape width script) limits [] (length script) [] 0 0 0 None) places
+pub begun_sound : BeginningsPlace → (shape : Shape) (width : ℕ) (limits : Limits) (script : List Sent) (places : ℕ) → IsGoodShape shape → AllThread shape → 1 ≤ width → Each (Arrives shape) script → length script ≤ 1000000 → limits.launches ≤ 10000000 → IsSoundCore (begun_store shape width script) (view_of (begun_store shape width script) limits [] (length script) [] 0 0 0 None) [] places
 begun_sound law shape width limits script places good threads wide arrive few launches =
     let bag = flat_map kept (born shape 0 script) in
     let placed = law shape width limits script [] arrive in
-    let sound : IsSoundCore (begun_store shape width script) (core_begun shape width limits script []) places = record {
-      bag = bag;
+    let sound : IsSoundCore (begun_store shape width script) (core_begun shape width limits script []) [] places = record {
       placed = placed;
+      running = tt;
       waiting = sym (none_later (length script) 0 bag placed.rises);
       reserves = λ v. zero_at (length shape.units) v;
       good = good;
@@ -62,4 +67,4 @@ begun_sound law shape width limits script places good threads wide arrive few la
       spent = tt;
       spare = omega arith;
     } in
-    subst (λ (c : CoreView). IsSoundCore (begun_store shape width script) c places) (sym (begun_view shape width limits script threads)) sound
+    subst (λ (c : CoreView). IsSoundCore (begun_store shape width script) c [] places) (sym (begun_view shape width limits script threads)) sound

@@ -21,19 +21,22 @@ use Rattle.wg_core.proofs.Lists.{by_unit_at}
 use Rattle.wg_standing.specs.Laws.{UnopenedIsWhole}
 use Rattle.wg_core.proofs.Bounds.{at_each}
 use Rattle.wg_core.proofs.Openings.{Rest, lists_of, seen}
-use Rattle.wg_core.proofs.Settlings.{parted}
+use Rattle.wg_core.proofs.Settlings.{names_parted, parted}
+use Rattle.wg_core.proofs.Bags.{length_names, none_shared, ready_is_now}
+use Rattle.wg_core.specs.Running.{IsNotRunning, all_names, names_of}
+use Rattle.wg_core.specs.declared.running.Running.{Running}
 
 none_wait : (handed v n : ℕ) → Each (λ (ws : List Live). ws ≡ []) (by_unit handed v n [])
 none_wait handed v zero = tt
 none_wait handed v (suc n) = (refl, none_wait handed (v + 1) n)
 
 -- a bare store with nothing out is idle
-pub idle_of : (k : StoreView) (r : Rest) → r.outs ≡ [] → IsBare k → IsIdle (seen k r)
+pub idle_of : (k : StoreView) (r : Rest) → r.runs ≡ [] → IsBare k → IsIdle (seen k r)
 idle_of k r none bare =
     record {
       waits = subst (λ (ws : List Live). Each (λ (xs : List Live). xs ≡ []) (by_unit k.handed 0 (length k.shape.units) ws)) (sym bare.waiting) (none_wait k.handed 0 (length k.shape.units));
       entries = bare.entries;
-      outs = none;
+      outs = ap all_names none;
     }
 
 nil_at : (waits : List (List Live)) → Each (λ (ws : List Live). ws ≡ []) waits → (v : ℕ) → unwrap_or (slice_get waits v) [] ≡ []
@@ -45,7 +48,7 @@ self_eq : (n : ℕ) → (n == n) ≡ true
 self_eq n = grind (arith, nat_tests)
 
 -- an idle core has a bare store
-pub bare_of_idle : UnopenedIsWhole → (k : StoreView) (r : Rest) (places : ℕ) → IsSoundCore k (seen k r) places → IsIdle (seen k r) → IsBare k
+pub bare_of_idle : UnopenedIsWhole → (k : StoreView) (r : Rest) (places : ℕ) → IsSoundCore k (seen k r) r.runs places → IsIdle (seen k r) → IsBare k
 bare_of_idle law k r places s idle = record { waiting = go k.waiting refl; entries = idle.entries }
   where
     go : (xs : List Live) → k.waiting ≡ xs → k.waiting ≡ []
@@ -63,7 +66,7 @@ bare_of_idle law k r places s idle = record { waiting = go k.waiting refl; entri
         absurd (omega (arith, long, some))
 
 -- the record to open next is of a unit of the shape, which has room
-pub known_at : UnopenedIsWhole → (k : StoreView) (r : Rest) (places : ℕ) (place : Place) (x : Live) → IsSoundCore k (seen k r) places → record_at k place ≡ Some x → x.unit < length k.shape.units
+pub known_at : UnopenedIsWhole → (k : StoreView) (r : Rest) (places : ℕ) (place : Place) (x : Live) → IsSoundCore k (seen k r) r.runs places → record_at k place ≡ Some x → x.unit < length k.shape.units
 known_at law k r places (Waiting at) x s e = at_each (λ (y : Live). y.unit < length k.shape.units) k.waiting (lists_of law k r places s).waiting_known at x e
 known_at law k r places Entry x s e = at_each (λ (y : Live). y.unit < length k.shape.units) k.entries (lists_of law k r places s).entries_known 0 x e
 
@@ -78,6 +81,14 @@ room_at k Entry x b e = go k.entries refl
         let same : y ≡ x = cc in
         subst (StoreHasRoom k) (ap first_unit q ∙ ap (λ (z : Live). z.unit) same) b.1.1
 
+pub running_not : (ticket : ℕ) (runs : List Running) → IsNotRunning ticket runs → IsNotOut ticket (all_names runs)
+running_not ticket [] n = tt
+running_not ticket (q ∷ runs) n = (n.0, running_not ticket runs n.1)
+
+pub no_runs : (runs : List Running) → all_names runs ≡ [] → runs ≡ []
+no_runs [] e = refl
+no_runs (q ∷ runs) e = absurd (cc)
+
 not_among : (xs : List Pending) (o : Pending) (ys : List Pending) (ticket : ℕ) → o.ticket ≡ ticket → IsNotOut ticket (xs ++ o ∷ ys) → ⊥
 not_among [] o ys ticket e n = n.0 e
 not_among (x ∷ xs) o ys ticket e n = not_among xs o ys ticket e n.1
@@ -86,17 +97,20 @@ some_out : (core : CoreView) (ticket : ℕ) → SomeIsOut core ticket → IsNotO
 some_out core ticket s n = not_among s.0 s.1 s.2 ticket s.3.named (subst (IsNotOut ticket) s.3.place n)
 
 -- the launch that stopped a core is out
-pub stopped_out : (core : CoreView) (stopped : Option ℕ) → IfSome stopped (SomeIsOut core) → IfSome stopped (λ ticket. IsNotOut ticket core.outs → ⊥)
-stopped_out core None s = tt
-stopped_out core (Some ticket) s = some_out core ticket s
+pub stopped_out : (core : CoreView) (runs : List Running) (stopped : Option ℕ) → core.outs ≡ all_names runs → IfSome stopped (SomeIsOut core) → IfSome stopped (λ ticket. IsNotRunning ticket runs → ⊥)
+stopped_out core runs None e s = tt
+stopped_out core runs (Some ticket) e s = λ n. some_out core ticket s (subst (IsNotOut ticket) (sym e) (running_not ticket runs n))
 
-pub ends : UnopenedIsWhole → (k : StoreView) (r : Rest) (places : ℕ) (end : End) → IsSoundCore k (seen k r) places → EndIs k r.outs r.stopped (length r.journal) r.limits end → EndsAs (seen k r) end
+pub ends : UnopenedIsWhole → (k : StoreView) (r : Rest) (places : ℕ) (end : End) → IsSoundCore k (seen k r) r.runs places → EndIs k r.runs r.stopped (length r.journal) r.limits end → EndsAs (seen k r) end
 ends law k r places (ended.Turns launch) s e =
     let l = e.2 in
-    (e.0, e.1, (take l.place r.outs, l.pending, drop (suc l.place) r.outs, record { place = parted r.outs l.place l.pending l.there; named = l.named }, l.launch_is))
+    let now = ready_is_now k.shape 0 r.next r.runs (k.entries ++ k.waiting) l.place l.pending (none_shared k.shape s.good s.threads) s.placed.rises s.running l.there in
+    (e.0, e.1, (all_names (take l.place r.runs), names_of l.pending, all_names (drop (suc l.place) r.runs), record { place = names_parted r.runs (take l.place r.runs) l.pending (drop (suc l.place) r.runs) (parted r.runs l.place l.pending l.there); named = l.named }, l.launch_is ∙ sym now))
 ends law k r places ended.Complete s e = (e.0, idle_of k r e.1 e.2)
 ends law k r places ended.Launches s e =
-    let z = ap (λ (os : List Pending). length os) e.2 in
-    (e.0, λ idle. e.1 (idle.outs, bare_of_idle law k r places s idle), e.2, (let j = e.3 in omega (arith, z, j)))
+    let z = ap (λ (os : List Running). length os) e.2 in
+    let many = length_names r.runs in
+    (e.0, λ idle. e.1 (no_runs r.runs idle.outs, bare_of_idle law k r places s idle), ap all_names e.2, (let j = e.3 in omega (arith, z, j, many)))
 ends law k r places ended.Open s e =
-    (e.0, λ idle. e.1 (idle.outs, bare_of_idle law k r places s idle), λ spent. e.2 (spent.2, (let z = ap (λ (os : List Pending). length os) spent.2 in let u = spent.3 in omega (arith, z, u))))
+    let many = length_names r.runs in
+    (e.0, λ idle. e.1 (no_runs r.runs idle.outs, bare_of_idle law k r places s idle), λ spent. e.2 (no_runs r.runs spent.2, (let z = ap (λ (os : List Pending). length os) spent.2 in let u = spent.3 in omega (arith, z, u))))

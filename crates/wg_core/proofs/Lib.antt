@@ -1,3 +1,4 @@
+pub mod Bags
 pub mod Beginning
 pub mod Bounds
 pub mod Endings

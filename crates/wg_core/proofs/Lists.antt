@@ -1,5 +1,5 @@
 -- Counts, tests and parts of lists.
-use Rattle.std.proofs.Common.{◌≡◌, ℕ, zero, suc, ◌+◌, ◌<◌, ◌≤◌, Bool, true, false, cond, List, [], ◌∷◌, ◌++◌, length, map, refl, ap, sym, ◌∙◌, arith, inl, inr, ◌⊎◌, Some, unwrap_or}
+use Rattle.std.proofs.Common.{None, ◌≡◌, ℕ, zero, suc, ◌+◌, ◌<◌, ◌≤◌, Bool, true, false, cond, List, [], ◌∷◌, ◌++◌, length, map, refl, ap, sym, ◌∙◌, arith, inl, inr, ◌⊎◌, Some, unwrap_or}
 use Rattle.std.specs.Prelude.{if◌then◌else◌, ◌==◌, ◌&&◌, filter, count_by, nat_le, slice_get}
 use Rattle.std.proofs.lemmas.Bool.Decides.{nat_tests}
 use Rattle.std.proofs.lemmas.List.Sums.{sum_by-cons}
@@ -50,11 +50,11 @@ by_unit_at handed w zero k bag h = absurd (omega arith)
 by_unit_at handed w (suc n) zero bag h = let e : w ≡ w + 0 = omega arith in ap (λ (v : ℕ). filter (in_slot handed v) bag) e
 by_unit_at handed w (suc n) (suc k) bag h = let e : w + 1 + k ≡ w + suc k = omega arith in by_unit_at handed (w + 1) n k bag (omega arith) ∙ ap (λ (v : ℕ). filter (in_slot handed v) bag) e
 
-pub by_unit_left : LaunchesLeaveEachList → (handed v n : ℕ) (nums other : List ℕ) (bag : List Live) → map (left_after nums other) (by_unit handed v n bag) ≡ by_unit handed v n (left_after nums other bag)
+pub by_unit_left : LaunchesLeaveEachList → (handed v n : ℕ) (nums other : List ℕ) (bag : List Live) → map (left_after nums other None) (by_unit handed v n bag) ≡ by_unit handed v n (left_after nums other None bag)
 by_unit_left law handed v zero nums other bag = refl
 by_unit_left law handed v (suc n) nums other bag =
-    ap (λ (first : List Live). first ∷ map (left_after nums other) (by_unit handed (v + 1) n bag)) (law (λ u m. (u == v) && nat_le handed m) nums other bag)
-    ∙ ap (λ (rest : List (List Live)). filter (in_slot handed v) (left_after nums other bag) ∷ rest) (by_unit_left law handed (v + 1) n nums other bag)
+    ap (λ (first : List Live). first ∷ map (left_after nums other None) (by_unit handed (v + 1) n bag)) (law (λ u m. (u == v) && nat_le handed m) nums other bag)
+    ∙ ap (λ (rest : List (List Live)). filter (in_slot handed v) (left_after nums other None bag) ∷ rest) (by_unit_left law handed (v + 1) n nums other bag)
 
 pub by_unit_append : (handed v n : ℕ) (bag fresh : List Live) → all_more handed v fresh (by_unit handed v n bag) ≡ by_unit handed v n (bag ++ fresh)
 by_unit_append handed v zero bag fresh = refl
@@ -63,10 +63,10 @@ by_unit_append handed v (suc n) bag fresh =
     ∙ ap (λ (rest : List (List Live)). filter (in_slot handed v) (bag ++ fresh) ∷ rest) (by_unit_append handed (v + 1) n bag fresh)
 
 -- what the rest may send, and what the one that settles may
-pub reserved_without : (shape : Shape) (v : ℕ) (xs : List Pending) (o : Pending) (ys : List Pending) → reserved shape (xs ++ o ∷ ys) v ≡ reserved shape (xs ++ ys) v + need shape o.launch.unit v
+pub reserved_without : (shape : Shape) (v : ℕ) (xs : List Pending) (o : Pending) (ys : List Pending) → reserved shape (xs ++ o ∷ ys) v ≡ reserved shape (xs ++ ys) v + need shape o.unit v
 reserved_without shape v [] o ys =
-    let c = sum_by-cons (λ (p : Pending). need shape p.launch.unit v) o ys in omega (arith, c)
+    let c = sum_by-cons (λ (p : Pending). need shape p.unit v) o ys in omega (arith, c)
 reserved_without shape v (x ∷ xs) o ys =
-    let c = sum_by-cons (λ (p : Pending). need shape p.launch.unit v) x (xs ++ ys) in
-    let d = sum_by-cons (λ (p : Pending). need shape p.launch.unit v) x (xs ++ o ∷ ys) in
+    let c = sum_by-cons (λ (p : Pending). need shape p.unit v) x (xs ++ ys) in
+    let d = sum_by-cons (λ (p : Pending). need shape p.unit v) x (xs ++ o ∷ ys) in
     let ih = reserved_without shape v xs o ys in omega (arith, c, d, ih)

@@ -9,6 +9,7 @@ use Rattle.wg_machine.specs.GoodShape.{IsGoodShape}
 use Rattle.wg_machine.specs.LaunchMeaning.{FitsShape, KeepsLaws, Meaning, Outcome}
 use Rattle.wg_standing.specs.Core.{CoreView}
 use Rattle.wg_standing.specs.Laws.{OpeningsStand, OutsFit, SettlingsStand, StoppingsStand}
+use Rattle.wg_standing.specs.Outs.{launch_now}
 use Rattle.wg_standing.specs.Moves.{TakesStep}
 use Rattle.wg_standing.specs.Standing.{StandsFor}
 use Rattle.wg_core.specs.declared.engine.Opened.{Opened}
@@ -39,8 +40,9 @@ pub record StandingLaws : Type 0 where
 stands_step : StandingLaws → (made : Meaning) (script : List Sent) (start : Buffers) (old new : CoreView) (ticket : ℕ) → IsGoodShape old.shape → IsLawful made old.shape → old.stopped ≡ None → TakesStep made old new ticket → StandsFor made script start old → StandsFor made script start new
 stands_step law made script start old new ticket good lawful running s h =
     let o = s.pending in
-    let fits = law.fit old h.state.bag s.before o s.later good s.was_out h.placed in
-    let laws = subst (λ (x : Option Outcome). IfSome x (KeepsLaws old.shape o.launch old.buffers old.limits.turns)) s.runs (lawful o.launch old.buffers old.limits.turns fits) in
+    let launch = launch_now old.shape old.bag o in
+    let fits = law.fit old s.before o s.later good s.was_out h.placed in
+    let laws = subst (λ (x : Option Outcome). IfSome x (KeepsLaws old.shape launch old.buffers old.limits.turns)) s.runs (lawful launch old.buffers old.limits.turns fits) in
     subst (StandsFor made script start) (sym s.after) (law.settle made script start old s.before o s.later s.outcome good running s.was_out s.runs laws h)
 
 -- a core that settles stands for what it stood for, with one step more where it made one
@@ -49,7 +51,8 @@ stands_settled law made script start old new ticket settled.Kept good lawful s h
 stands_settled law made script start old new ticket settled.Redone good lawful s h = stands_step law made script start old new ticket good lawful s.0 s.1 h
 stands_settled law made script start old new ticket (settled.TurnsSpent launch) good lawful s h =
     let out = s.1.3 in
-    let stopped = law.stop made script start old s.1.0 s.1.1 s.1.2 out.place s.1.5 h in
+    let spent = subst (λ (l : Launch). made l old.buffers old.limits.turns ≡ None) s.1.4 s.1.5 in
+    let stopped = law.stop made script start old s.1.0 s.1.1 s.1.2 out.place spent h in
     subst (StandsFor made script start) (sym s.2) (subst (λ (t : ℕ). (let core : CoreView = record old { stopped = Some t } in StandsFor made script start core)) out.named stopped)
 stands_settled law made script start old new ticket settled.NotOut good lawful s h = subst (StandsFor made script start) (sym s.2) h
 stands_settled law made script start old new ticket settled.Stopped good lawful s h = subst (StandsFor made script start) (sym s.1) h

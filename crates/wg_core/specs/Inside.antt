@@ -1,11 +1,12 @@
 -- Inside a core: its fields, and what every core keeps.
-use Rattle.std.specs.Prelude.{◌≡◌, ℕ, ◌+◌, ◌*◌, ◌^◌, ◌≤◌, Bool, List, [], length, filter, nat_le, Option, IfSome, Some, slice_get, slice_index}
+use Rattle.std.specs.Prelude.{◌≡◌, ℕ, ◌+◌, ◌*◌, ◌^◌, ◌≤◌, Bool, List, [], ◌++◌, length, filter, nat_le, Option, IfSome, Some, slice_get, slice_index}
 use Rattle.wg_words.specs.Each.{Each}
 use Rattle.wg_machine.specs.declared.launch.Entry.{Entry}
 use Rattle.wg_machine.specs.declared.launch.Limits.{Limits}
 use Rattle.wg_machine.specs.declared.launch.Live.{Live}
 use Rattle.wg_machine.specs.GoodShape.{IsGoodShape}
-use Rattle.wg_standing.specs.declared.pending.Pending.{Pending}
+use Rattle.wg_core.specs.declared.running.Running.{Running}
+use Rattle.wg_core.specs.Running.{EachOfThread, all_names, with_runs}
 use Rattle.wg_standing.specs.Core.{CoreView}
 use Rattle.wg_standing.specs.Outs.{unopened}
 use Rattle.wg_standing.specs.Standing.{IsPlaced, by_unit, reserved}
@@ -13,8 +14,8 @@ use Rattle.wg_core.specs.Store.{StoreView, AllThread}
 use Rattle.wg_standing.specs.Idle.{SomeIsOut}
 
 -- what contracts see, of a store and the other fields
-abbrev pub view_of : StoreView → Limits → List Entry → ℕ → List Pending → ℕ → ℕ → ℕ → Option ℕ → CoreView
-view_of k limits journal next outs tickets denied peak stopped =
+abbrev pub view_of : StoreView → Limits → List Entry → ℕ → List Running → ℕ → ℕ → ℕ → Option ℕ → CoreView
+view_of k limits journal next runs tickets denied peak stopped =
     record {
       shape = k.shape;
       width = k.width;
@@ -23,10 +24,11 @@ view_of k limits journal next outs tickets denied peak stopped =
       journal = journal;
       next = next;
       buffers = [];
+      bag = with_runs runs (k.entries ++ k.waiting);
       waits = by_unit k.handed 0 (length k.shape.units) k.waiting;
       entries = k.entries;
       used = k.used;
-      outs = outs;
+      outs = all_names runs;
       tickets = tickets;
       denied = denied;
       peak = peak;
@@ -37,11 +39,11 @@ abbrev pub is_in_slot : ℕ → Live → Bool
 is_in_slot handed x = nat_le handed x.number
 
 -- what every core keeps
-pub record IsSoundCore (k : StoreView) (core : CoreView) (places : ℕ) : Type 0 where
-  pub bag : List Live
-  pub placed : IsPlaced core bag
+pub record IsSoundCore (k : StoreView) (core : CoreView) (runs : List Running) (places : ℕ) : Type 0 where
+  pub placed : IsPlaced core core.bag
+  pub running : EachOfThread runs
   -- the store's list is what waits in slots, and its reserves are those of the launches out
-  pub waiting : k.waiting ≡ filter (is_in_slot core.handed) (unopened core.outs bag)
+  pub waiting : k.waiting ≡ filter (is_in_slot core.handed) (unopened core.outs core.bag)
   pub reserves : (v : ℕ) → slice_index k.reserved v ≡ reserved core.shape core.outs v
   pub good : IsGoodShape core.shape
   pub threads : AllThread core.shape
@@ -56,7 +58,7 @@ pub record IsSoundCore (k : StoreView) (core : CoreView) (places : ℕ) : Type 0
   pub spare : length core.journal + length core.outs ≤ places
 
 -- the launch at a place has the ticket
-pub record IsAt (outs : List Pending) (place ticket : ℕ) : Type 0 where
-  pub pending : Pending
+pub record IsAt (outs : List Running) (place ticket : ℕ) : Type 0 where
+  pub pending : Running
   pub there : slice_get outs place ≡ Some pending
   pub named : pending.ticket ≡ ticket

@@ -1,5 +1,5 @@
 -- Inside a core: what waits, in plain lists, and the slots in use.
-use Rattle.std.specs.Prelude.{◌≡◌, ◌≢◌, ◌⊎◌, ℕ, ◌<◌, ◌+◌, ◌≤◌, ◌==◌, List, [], ◌∷◌, ◌++◌, length, map, Option, Some, None, slice_index, slice_get, nat_le, false, count_by, remove, drop, replicate}
+use Rattle.std.specs.Prelude.{◌≡◌, ◌≢◌, ◌⊎◌, ℕ, ◌<◌, ◌+◌, ◌≤◌, ◌==◌, List, [], ◌∷◌, ◌++◌, length, map, Option, Some, None, slice_index, slice_get, nat_le, count_by, remove, drop, replicate}
 use Rattle.std.specs.List.{range_with_len}
 use Rattle.wg_words.specs.Each.{Each}
 use Rattle.wg_machine.specs.declared.shape.Kind.TheVariants.{Thread}
@@ -10,7 +10,6 @@ use Rattle.wg_machine.specs.declared.launch.Sent.{Sent}
 use Rattle.wg_machine.specs.Choice.{HasRoom}
 use Rattle.wg_machine.specs.LaunchMeaning.{Arrives}
 use Rattle.wg_machine.specs.Need.{need, need_of, most}
-use Rattle.wg_machine.specs.Step.{record_of}
 use Rattle.wg_machine.specs.Units.{depth_at}
 use Rattle.wg_core.specs.declared.needs.Needs.{Needs}
 use Rattle.wg_standing.specs.declared.pending.Pending.{Pending}
@@ -42,21 +41,11 @@ pub record StoreView : Type 0 where
 
 -- a record of a thread unit, with its one group
 abbrev pub thread_live : ℕ → Sent → Live
-thread_live number s = record { number = number; unit = s.unit; words = s.words; groups = origin ∷ [] }
+thread_live number s = record { number = number; unit = s.unit; words = s.words; grid = 1 ∷ 1 ∷ 1 ∷ []; groups = origin ∷ [] }
 
 abbrev pub thread_born : ℕ → List Sent → List Live
 thread_born number [] = []
 thread_born number (s ∷ sent) = thread_live number s ∷ thread_born (number + 1) sent
-
--- the launch of one record of a thread unit
-abbrev pub thread_pending : ℕ → Live → Pending
-thread_pending ticket x =
-    record {
-      ticket = ticket;
-      at = origin;
-      launch = record { unit = x.unit; records = record_of x ∷ []; group = 0; grid = 1 ∷ 1 ∷ 1 ∷ []; last = false };
-      inputs = x.number ∷ [];
-    }
 
 -- a store at the start of a script
 abbrev pub begun_store : Shape → ℕ → List Sent → StoreView
@@ -135,15 +124,15 @@ frees handed o = count_by (λ n. nat_le handed n) o.inputs
 
 -- the lists after a launch was settled, with what it sent
 pub record StoreSettles (old new : StoreView) (o : Pending) (next : ℕ) (sent : List Sent) : Type 0 where
-  pub lists : new ≡ record old { waiting = old.waiting ++ thread_born next sent; used = used_more old.handed 0 o.launch.unit (frees old.handed o) (thread_born next sent) old.used; reserved = new.reserved }
-  pub reserved : (v : ℕ) → slice_index new.reserved v + need old.shape o.launch.unit v ≡ slice_index old.reserved v
+  pub lists : new ≡ record old { waiting = old.waiting ++ thread_born next sent; used = used_more old.handed 0 o.unit (frees old.handed o) (thread_born next sent) old.used; reserved = new.reserved }
+  pub reserved : (v : ℕ) → slice_index new.reserved v + need old.shape o.unit v ≡ slice_index old.reserved v
 
 -- what was sent has slots: it is within the needs that were reserved
 pub record CanSettle (k : StoreView) (o : Pending) (next : ℕ) (sent : List Sent) : Type 0 where
   pub arrive : Each (Arrives k.shape) sent
-  pub few : (v : ℕ) → count_by (λ (s : Sent). s.unit == v) sent ≤ need k.shape o.launch.unit v
+  pub few : (v : ℕ) → count_by (λ (s : Sent). s.unit == v) sent ≤ need k.shape o.unit v
   pub total : length sent ≤ 16384
-  pub reserves : (v : ℕ) → need k.shape o.launch.unit v ≤ slice_index k.reserved v
-  pub unit : o.launch.unit < length k.shape.units
-  pub frees : frees k.handed o ≤ slice_index k.used o.launch.unit
+  pub reserves : (v : ℕ) → need k.shape o.unit v ≤ slice_index k.reserved v
+  pub unit : o.unit < length k.shape.units
+  pub frees : frees k.handed o ≤ slice_index k.used o.unit
   pub later : k.handed ≤ next

@@ -12,6 +12,7 @@ use Rattle.wg_standing.specs.Choice.{IsChoice, NoChoice}
 use Rattle.wg_standing.specs.Core.{CoreView}
 use Rattle.wg_standing.specs.Idle.{IsIdle, IsOut, IsSpentUp, SomeIsOut}
 use Rattle.wg_standing.specs.Moves.{with_out, TakesStep}
+use Rattle.wg_standing.specs.Outs.{launch_now}
 use Rattle.wg_standing.specs.Standing.{IsNotOut}
 
 abbrev pub IsLaunchesSpent : CoreView → Type 0
@@ -25,7 +26,7 @@ Opens old new opened.LaunchesSpent = IsLaunchesSpent old × (new ≡ old)
 Opens old new opened.NotNow = (old.stopped ≡ None) × (0 < length old.outs) × (IsSpentUp old ⊎ NoChoice old) × (new ≡ old)
 Opens old new (opened.Launch out) =
     (old.stopped ≡ None) × (length old.journal + length old.outs < old.limits.launches)
-    × ((o : Pending) × IsChoice old o × (out ≡ record { ticket = o.ticket; launch = o.launch }) × (new ≡ with_out old o))
+    × ((o : Pending) × IsChoice old o × (out ≡ record { ticket = o.ticket; launch = launch_now old.shape old.bag o }) × (new ≡ with_out old o))
 Opens old new opened.Memory =
     (old.stopped ≡ None) × (length old.journal + length old.outs < old.limits.launches)
     × ((o : Pending) × IsChoice old o) × (new ≡ old)
@@ -36,7 +37,7 @@ Settles made old new ticket settled.Kept = ⊥
 Settles made old new ticket settled.Redone = (old.stopped ≡ None) × TakesStep made old new ticket
 Settles made old new ticket (settled.TurnsSpent launch) =
     (old.stopped ≡ None)
-    × ((before : List Pending) × (o : Pending) × (later : List Pending) × IsOut old ticket before o later × (launch ≡ o.launch) × (made o.launch old.buffers old.limits.turns ≡ None))
+    × ((before : List Pending) × (o : Pending) × (later : List Pending) × IsOut old ticket before o later × (launch ≡ launch_now old.shape old.bag o) × (made launch old.buffers old.limits.turns ≡ None))
     × (new ≡ record old { stopped = Some ticket })
 Settles made old new ticket settled.NotOut = (old.stopped ≡ None) × IsNotOut ticket old.outs × (new ≡ old)
 Settles made old new ticket settled.Stopped = (old.stopped ≢ None) × (new ≡ old)
@@ -46,7 +47,7 @@ Settles made old new ticket settled.Memory = (old.stopped ≡ None) × SomeIsOut
 abbrev pub EndsAs : CoreView → End → Type 0
 EndsAs core (ended.Turns launch) =
     (ticket : ℕ) × (core.stopped ≡ Some ticket)
-    × ((before : List Pending) × (o : Pending) × (later : List Pending) × IsOut core ticket before o later × (launch ≡ o.launch))
+    × ((before : List Pending) × (o : Pending) × (later : List Pending) × IsOut core ticket before o later × (launch ≡ launch_now core.shape core.bag o))
 EndsAs core ended.Complete = (core.stopped ≡ None) × IsIdle core
 EndsAs core ended.Launches = IsLaunchesSpent core
 EndsAs core ended.Open = (core.stopped ≡ None) × (IsIdle core → ⊥) × (IsLaunchesSpent core → ⊥)

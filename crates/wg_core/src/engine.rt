@@ -8,13 +8,14 @@ ghost use Rattle.wg_machine.specs.Buffers.{Buffers};
 ghost use Rattle.wg_machine.specs.Bytes.{plan_bytes};
 ghost use Rattle.wg_machine.specs.GoodShape.{IsGoodShape};
 ghost use Rattle.wg_machine.specs.LaunchMeaning.{Arrives, Meaning};
-ghost use Rattle.wg_standing.specs.Standing.{IsNotOut};
+ghost use Rattle.wg_core.specs.Running.{IsNotRunning};
 ghost use Rattle.wg_core.specs.Ending.{EndIs, IsLaunchOut};
 ghost use Rattle.wg_core.specs.Inside.{IsAt};
 ghost use Rattle.wg_core.specs.Store.{IsBare};
 
 use crate::report::{End, Report};
 use crate::run::run;
+use crate::running::Running;
 use crate::store::{Store, launch_of};
 use std::alloc::{AllocError, Global};
 use std::marker::Model;
@@ -22,9 +23,9 @@ use wg_machine::{
     Bodies, Entries, Entry, EntryList, Halt, Launch, Limits, Made, SentList, Shape, needs_are_kept,
 };
 use wg_standing::{
-    Pending, beginnings_place, beginnings_stand, launches_leave_each_list, never_blocked,
-    openings_leave, openings_place, openings_stand, outs_fit, settlings_free, settlings_leave,
-    settlings_place, settlings_stand, stoppings_stand, taken_stay, unopened_is_whole,
+    beginnings_place, beginnings_stand, launches_leave_each_list, never_blocked, openings_leave,
+    openings_place, openings_stand, outs_fit, settlings_free, settlings_leave, settlings_place,
+    settlings_stand, stoppings_stand, taken_stay, unopened_is_whole, unshared_stay,
 };
 use wg_words::TryCopy;
 
@@ -73,7 +74,7 @@ pub struct Core {
     store: Store,
     next: u64,
     journal: Vec<Entry>,
-    outs: Vec<Pending>,
+    outs: Vec<Running>,
     tickets: u64,
     denied: u64,
     peak: u64,
@@ -90,7 +91,7 @@ impl Model for Core {
 
     ghost view = { λ c. view_of c.store c.limits c.journal.items c.next c.outs.items c.tickets c.denied c.peak c.stopped };
 
-    ghost invariant = { λ c. IsSoundCore c.store (view_of c.store c.limits c.journal.items c.next c.outs.items c.tickets c.denied c.peak c.stopped) (vec_capacity c.journal) };
+    ghost invariant = { λ c. IsSoundCore c.store (view_of c.store c.limits c.journal.items c.next c.outs.items c.tickets c.denied c.peak c.stopped) c.outs.items (vec_capacity c.journal) };
 }
 
 impl Core {
@@ -231,6 +232,7 @@ impl Core {
         settlings_leave();
         settlings_free();
         taken_stay();
+        unshared_stay();
         if self.stopped.is_some() {
             return Settled::Stopped;
         }
@@ -305,7 +307,7 @@ impl Core {
 }
 
 // Whether nothing waits and nothing is out.
-fn is_idle(store: &Store, outs: &[Pending]) -> bool
+fn is_idle(store: &Store, outs: &[Running]) -> bool
     ensures { IsTrue result ↔ ((outs.now ≡ []) × IsBare store.now) }
 {
     outs.is_empty() && store.is_bare()
@@ -314,12 +316,12 @@ fn is_idle(store: &Store, outs: &[Pending]) -> bool
 // How a run ended.
 fn end_of(
     store: &Store,
-    outs: Vec<Pending>,
+    outs: Vec<Running>,
     stopped: Option<u64>,
     journal: u64,
     limits: &Limits,
 ) -> End
-    requires { IfSome stopped (λ ticket. IsNotOut ticket outs.items → ⊥) }
+    requires { IfSome stopped (λ ticket. IsNotRunning ticket outs.items → ⊥) }
     ensures { EndIs store.now outs.items stopped journal limits.now result }
 {
     if let Some(ticket) = stopped {
@@ -335,8 +337,8 @@ fn end_of(
 }
 
 // The launch with a ticket.
-fn launch_out(mut outs: Vec<Pending>, ticket: u64) -> Launch
-    requires { IsNotOut ticket outs.items → ⊥ }
+fn launch_out(mut outs: Vec<Running>, ticket: u64) -> Launch
+    requires { IsNotRunning ticket outs.items → ⊥ }
     ensures { IsLaunchOut outs.items ticket result }
 {
     let Some(place) = place_of(outs.as_slice(), ticket) else {
@@ -345,10 +347,10 @@ fn launch_out(mut outs: Vec<Pending>, ticket: u64) -> Launch
     launch_in(outs.remove(place))
 }
 
-fn launch_in(pending: Pending) -> Launch
+fn launch_in(pending: Running) -> Launch
     ensures { result ≡ pending.launch }
 {
-    let Pending {
+    let Running {
         ticket: _,
         at: _,
         launch,
@@ -358,9 +360,9 @@ fn launch_in(pending: Pending) -> Launch
 }
 
 // The place of the launch with a ticket.
-fn place_of(outs: &[Pending], ticket: u64) -> Option<usize>
+fn place_of(outs: &[Running], ticket: u64) -> Option<usize>
     ensures found { IfSome result (λ i. IsAt outs.now i ticket) }
-    ensures none { IfNone result (IsNotOut ticket outs.now) }
+    ensures none { IfNone result (IsNotRunning ticket outs.now) }
 {
     for (i, o) in outs.iter().enumerate() {
         if o.ticket == ticket {
@@ -390,10 +392,10 @@ fn sent_of(made: Made) -> SentList
 }
 
 // The entry of a launch, with the list of inputs that it had at hand.
-fn entry_for(pending: Pending, next: u64, outs: u32) -> Entry
+fn entry_for(pending: Running, next: u64, outs: u32) -> Entry
     ensures { result ≡ record { unit = pending.launch.unit; at = pending.at; inputs = pending.inputs; first_out = if outs == 0 then 0 else next; outs = outs } }
 {
-    let Pending {
+    let Running {
         ticket: _,
         at,
         launch,

@@ -6,6 +6,7 @@ mod memory;
 mod needs;
 mod report;
 mod run;
+mod running;
 mod store;
 
 pub use engine::{Core, Opened, Out, Settled};

@@ -5,14 +5,16 @@ ghost use Rattle.wg_machine.specs.GoodShape.{IsGoodShape};
 ghost use Rattle.wg_machine.specs.Units.{depth_at, stride_at};
 ghost use Rattle.wg_standing.specs.Moves.{slot_bytes, used_more};
 ghost use Rattle.wg_standing.specs.Standing.{in_slot};
-ghost use Rattle.wg_core.specs.Store.{AllThread, ArrivesIn, BestBelow, CanSettle, Chooses, ComesBefore, IsBare, IsBestBelow, StoreHasRoom, StoreSettles, StoreOpens, begun_store, record_at, thread_born, thread_pending};
+ghost use Rattle.wg_core.specs.Store.{AllThread, ArrivesIn, BestBelow, CanSettle, Chooses, ComesBefore, IsBare, IsBestBelow, StoreHasRoom, StoreSettles, StoreOpens, begun_store, record_at, thread_born};
+ghost use Rattle.wg_core.specs.Running.{names_of, thread_running};
 
 use crate::needs::{Needs, needs_of};
+use crate::running::Running;
 use std::alloc::{AllocError, Global};
 use std::collections::VecDeque;
 use std::marker::Model;
 use wg_machine::{Entries, Groups, Launch, Live, Record, Records, Sent, SentList, Shape};
-use wg_standing::{Pending, only_units_are_needed};
+use wg_standing::only_units_are_needed;
 use wg_words::{Numbers, TryCopy};
 
 /// Where the record of the next launch stands.
@@ -206,21 +208,21 @@ impl Store {
     pub fn settle(
         &mut self,
         alloc: Global,
-        pending: &Pending,
+        running: &Running,
         next: u64,
         sent: SentList,
     ) -> Result<(), AllocError>
-        requires can { CanSettle self.old pending.now next sent }
+        requires can { CanSettle self.old (names_of running.now) next sent }
         requires fits { next + length sent < 2 ^ 64 }
-        ensures ok { OnOk result (StoreSettles self.old self.new pending.now next sent) }
+        ensures ok { OnOk result (StoreSettles self.old self.new (names_of running.now) next sent) }
         ensures err { OnErr result (self.new ≡ self.old) }
     {
         only_units_are_needed();
         let mut arrived = arrivals(alloc, next, sent.as_slice())?;
         let before = self.waiting.len();
         self.waiting.append(&mut arrived)?;
-        let unit = pending.launch.unit as usize;
-        let gone = in_slots(pending.inputs.as_slice(), self.handed);
+        let unit = running.launch.unit as usize;
+        let gone = in_slots(running.inputs.as_slice(), self.handed);
         let arrived = &self.waiting[before..];
         change(self.used.as_mut_slice(), self.handed, unit, gone, arrived);
         let row = &self.needs.rows.as_slice()[unit];
@@ -324,6 +326,7 @@ fn arrivals(alloc: Global, from: u64, sent: &[Sent]) -> Result<Vec<Live>, AllocE
             number,
             unit: record.unit,
             words: record.words.copy(alloc)?,
+            grid: [1, 1, 1],
             groups: Groups::from_slice(alloc, &[[0, 0, 0]])?,
         })?;
         number += 1;
@@ -357,8 +360,8 @@ fn stride_of(shape: &Shape, unit: usize) -> u64
 }
 
 /// The launch of a record of a thread unit.
-pub fn launch_of(alloc: Global, ticket: u64, live: &Live) -> Result<Pending, AllocError>
-    ensures { IfOk result (λ pending. pending ≡ thread_pending ticket live.now) }
+pub fn launch_of(alloc: Global, ticket: u64, live: &Live) -> Result<Running, AllocError>
+    ensures { IfOk result (λ running. running ≡ thread_running ticket live.now) }
 {
     let words = live.words.copy(alloc)?;
     let mut records = Records::new(alloc);
@@ -366,7 +369,7 @@ pub fn launch_of(alloc: Global, ticket: u64, live: &Live) -> Result<Pending, All
         number: live.number,
         words,
     })?;
-    Ok(Pending {
+    Ok(Running {
         ticket,
         at: [0, 0, 0],
         launch: Launch {

@@ -1,5 +1,5 @@
 -- Bytes in slots, and room.
-use Rattle.std.proofs.Common.{◌≡◌, ℕ, zero, suc, ◌+◌, ◌-◌, ◌*◌, ◌<◌, ◌≤◌, Bool, true, false, ◌||◌, List, [], ◌∷◌, ◌++◌, length, refl, ap, sym, ◌∙◌, subst, arith}
+use Rattle.std.proofs.Common.{None, ◌≡◌, ℕ, zero, suc, ◌+◌, ◌-◌, ◌*◌, ◌<◌, ◌≤◌, Bool, true, false, ◌||◌, List, [], ◌∷◌, ◌++◌, length, refl, ap, sym, ◌∙◌, subst, arith}
 use Rattle.std.specs.Prelude.{if◌then◌else◌, ◌==◌, ◌&&◌, nat_le, nat_lt, count_by, sum_by, slice_index, max}
 use Rattle.std.specs.List.{flat_map}
 use Rattle.std.proofs.Math.Nat.{add-mul}
@@ -11,11 +11,11 @@ use Rattle.wg_machine.specs.declared.shape.Kind.TheVariants.{Thread, Coalescing,
 use Rattle.wg_machine.specs.declared.shape.Kind.{Kind}
 use Rattle.wg_machine.specs.declared.shape.Shape.{Shape}
 use Rattle.wg_machine.specs.State.{State, kept, born}
-use Rattle.wg_machine.specs.Step.{Passed, left_after, is_among}
+use Rattle.wg_machine.specs.Step.{Passed, left_after, has_number}
 use Rattle.wg_machine.specs.Units.{stride_at, kind_at, words_at}
 use Rattle.wg_machine.specs.Bytes.{live_bytes, peak as peak_of}
 use Rattle.wg_machine.specs.Grids.{grid_of, groups_of, without_group, same_group}
-use Rattle.wg_standing.specs.Standing.{EachFull, IsWithin, has_one_group, origin, counts, in_slot, EachKnown, EachHasWords}
+use Rattle.wg_standing.specs.Standing.{EachFull, IsGridAt, IsWithin, has_one_group, origin, counts, in_slot, EachKnown, EachHasWords}
 use Rattle.wg_machine.specs.LaunchMeaning.{Arrives}
 use Rattle.wg_standing.specs.Moves.{slot_bytes, used_more}
 use Rattle.wg_words.specs.Each.{Each}
@@ -41,11 +41,11 @@ counts_more handed v (suc n) zero m a b h = let e : v + 0 ≡ v = omega arith in
 counts_more handed v (suc n) (suc k) m a b h =
     let e : v + suc k ≡ v + 1 + k = omega arith in rw e (counts_more handed (v + 1) n k m a b h)
 
-count_kept : (handed w number unit : ℕ) (words : List ℕ) (gs : List (List ℕ)) (rest : List Live) → count_by (in_slot handed w) (kept (live_with number unit words gs) ++ rest) ≤ pay (unit == w) 1 + count_by (in_slot handed w) rest
-count_kept handed w number unit words [] rest = omega arith
-count_kept handed w number unit words (g ∷ gs) rest = choice (unit == w) (nat_le handed number) (count_cons (in_slot handed w) (live_with number unit words (g ∷ gs)) rest)
+count_kept : (handed w number unit : ℕ) (words grid : List ℕ) (gs : List (List ℕ)) (rest : List Live) → count_by (in_slot handed w) (kept (live_with number unit words grid gs) ++ rest) ≤ pay (unit == w) 1 + count_by (in_slot handed w) rest
+count_kept handed w number unit words grid [] rest = omega arith
+count_kept handed w number unit words grid (g ∷ gs) rest = choice (unit == w) (nat_le handed number) (count_cons (in_slot handed w) (live_with number unit words grid (g ∷ gs)) rest)
   where
-    choice : (a b : Bool) → count_by (in_slot handed w) (live_with number unit words (g ∷ gs) ∷ rest) ≡ (if a && b then 1 else 0) + count_by (in_slot handed w) rest → count_by (in_slot handed w) (live_with number unit words (g ∷ gs) ∷ rest) ≤ pay a 1 + count_by (in_slot handed w) rest
+    choice : (a b : Bool) → count_by (in_slot handed w) (live_with number unit words grid (g ∷ gs) ∷ rest) ≡ (if a && b then 1 else 0) + count_by (in_slot handed w) rest → count_by (in_slot handed w) (live_with number unit words grid (g ∷ gs) ∷ rest) ≤ pay a 1 + count_by (in_slot handed w) rest
     choice true true e = omega (arith, e)
     choice true false e = omega (arith, e)
     choice false b e = omega (arith, e)
@@ -54,7 +54,7 @@ count_kept handed w number unit words (g ∷ gs) rest = choice (unit == w) (nat_
 pub count_born : (shape : Shape) (handed w n : ℕ) (ss : List Sent) → count_by (in_slot handed w) (flat_map kept (born shape n ss)) ≤ count_by (λ (s : Sent). s.unit == w) ss
 count_born shape handed w n [] = omega arith
 count_born shape handed w n (s ∷ ss) =
-    let k = count_kept handed w n s.unit s.words (groups_of (grid_of (kind_at shape s.unit) s.words)) (flat_map kept (born shape (n + 1) ss)) in
+    let k = count_kept handed w n s.unit s.words (grid_of (kind_at shape s.unit) s.words) (groups_of (grid_of (kind_at shape s.unit) s.words)) (flat_map kept (born shape (n + 1) ss)) in
     let ih = count_born shape handed w (n + 1) ss in
     let c = count_cons (λ (t : Sent). t.unit == w) s ss in omega (arith, k, ih, c)
 
@@ -62,7 +62,7 @@ pub known_born : (shape : Shape) (n : ℕ) (ss : List Sent) → Each (Arrives sh
 known_born shape n [] all = tt
 known_born shape n (s ∷ ss) all = go (groups_of (grid_of (kind_at shape s.unit) s.words)) (known_born shape (n + 1) ss all.1)
   where
-    go : (gs : List (List ℕ)) → EachKnown (length shape.units) (flat_map kept (born shape (n + 1) ss)) → EachKnown (length shape.units) (kept (live_with n s.unit s.words gs) ++ flat_map kept (born shape (n + 1) ss))
+    go : (gs : List (List ℕ)) → EachKnown (length shape.units) (flat_map kept (born shape (n + 1) ss)) → EachKnown (length shape.units) (kept (live_with n s.unit s.words (grid_of (kind_at shape s.unit) s.words) gs) ++ flat_map kept (born shape (n + 1) ss))
     go [] k = k
     go (g ∷ gs) k = (all.0.unit, k)
 
@@ -124,9 +124,9 @@ pub full_append : (shape : Shape) (xs ys : List Live) → EachFull shape xs → 
 full_append shape [] ys a b = b
 full_append shape (x ∷ xs) ys a b = (a.0, full_append shape xs ys a.1 b)
 
-full_one : (shape : Shape) (number unit : ℕ) (words : List ℕ) (gs : List (List ℕ)) (rest : List Live) → (has_one_group (kind_at shape unit) ≡ true → 0 < length gs → gs ≡ origin ∷ []) → Each (IsWithin (grid_of (kind_at shape unit) words)) gs → EachFull shape rest → EachFull shape (kept (live_with number unit words gs) ++ rest)
-full_one shape number unit words [] rest h w f = f
-full_one shape number unit words (g ∷ gs) rest h w f = (record { some = omega arith; whole = λ e. h e (omega arith); within = w }, f)
+full_one : (shape : Shape) (number unit : ℕ) (words grid : List ℕ) (gs : List (List ℕ)) (rest : List Live) → (has_one_group (kind_at shape unit) ≡ true → 0 < length gs → gs ≡ origin ∷ []) → Each (IsWithin grid) gs → IsGridAt shape unit grid → EachFull shape rest → EachFull shape (kept (live_with number unit words grid gs) ++ rest)
+full_one shape number unit words grid [] rest h w b f = f
+full_one shape number unit words grid (g ∷ gs) rest h w b f = (record { some = omega arith; whole = λ e. h e (omega arith); within = w; grid = b }, f)
 
 within_without : (grid at : List ℕ) (gs : List (List ℕ)) → Each (IsWithin grid) gs → Each (IsWithin grid) (without_group at gs)
 within_without grid at [] w = tt
@@ -143,12 +143,12 @@ without_origin at h = choice (same_group origin at) h
     choice true h = absurd (omega arith)
     choice false h = refl
 
-pub full_left : (shape : Shape) (nums at : List ℕ) (bag : List Live) → EachFull shape bag → EachFull shape (left_after nums at bag)
+pub full_left : (shape : Shape) (nums at : List ℕ) (bag : List Live) → EachFull shape bag → EachFull shape (left_after nums at None bag)
 full_left shape nums at [] f = tt
-full_left shape nums at (x ∷ bag) f = choice (full_left shape nums at bag f.1) (is_among nums x.number)
+full_left shape nums at (x ∷ bag) f = choice (full_left shape nums at bag f.1) (has_number nums x.number)
   where
-    choice : EachFull shape (left_after nums at bag) → (b : Bool) → EachFull shape (ran b at x ++ left_after nums at bag)
-    choice ih true = full_one shape x.number x.unit x.words (without_group at x.groups) (left_after nums at bag) (λ e h. (let q = f.0.whole e in let h' = subst (λ (gs : List (List ℕ)). 0 < length (without_group at gs)) q h in ap (without_group at) q ∙ without_origin at h')) (within_without (grid_of (kind_at shape x.unit) x.words) at x.groups f.0.within) ih
+    choice : EachFull shape (left_after nums at None bag) → (b : Bool) → EachFull shape (ran b at x ++ left_after nums at None bag)
+    choice ih true = full_one shape x.number x.unit x.words x.grid (without_group at x.groups) (left_after nums at None bag) (λ e h. (let q = f.0.whole e in let h' = subst (λ (gs : List (List ℕ)). 0 < length (without_group at gs)) q h in ap (without_group at) q ∙ without_origin at h')) (within_without x.grid at x.groups f.0.within) f.0.grid ih
     choice ih false = (f.0, ih)
 
 one_grid : (k : Kind) (words : List ℕ) → has_one_group k ≡ true → groups_of (grid_of k words) ≡ origin ∷ []
@@ -159,24 +159,24 @@ one_grid (GridField f n x y z) words e = absurd (cc)
 
 pub full_born : (shape : Shape) (n : ℕ) (ss : List Sent) → EachFull shape (flat_map kept (born shape n ss))
 full_born shape n [] = tt
-full_born shape n (s ∷ ss) = full_one shape n s.unit s.words (groups_of (grid_of (kind_at shape s.unit) s.words)) (flat_map kept (born shape (n + 1) ss)) (λ e h. one_grid (kind_at shape s.unit) s.words e) (within_grid (grid_of (kind_at shape s.unit) s.words)) (full_born shape (n + 1) ss)
+full_born shape n (s ∷ ss) = full_one shape n s.unit s.words (grid_of (kind_at shape s.unit) s.words) (groups_of (grid_of (kind_at shape s.unit) s.words)) (flat_map kept (born shape (n + 1) ss)) (λ e h. one_grid (kind_at shape s.unit) s.words e) (within_grid (grid_of (kind_at shape s.unit) s.words)) (s.words, refl) (full_born shape (n + 1) ss)
 
 pub words_append : (shape : Shape) (xs ys : List Live) → EachHasWords shape xs → EachHasWords shape ys → EachHasWords shape (xs ++ ys)
 words_append shape [] ys a b = b
 words_append shape (x ∷ xs) ys a b = (a.0, words_append shape xs ys a.1 b)
 
-words_one : (shape : Shape) (number unit : ℕ) (words : List ℕ) (gs : List (List ℕ)) (rest : List Live) → length words ≡ words_at shape unit → EachHasWords shape rest → EachHasWords shape (kept (live_with number unit words gs) ++ rest)
-words_one shape number unit words [] rest h f = f
-words_one shape number unit words (g ∷ gs) rest h f = (h, f)
+words_one : (shape : Shape) (number unit : ℕ) (words grid : List ℕ) (gs : List (List ℕ)) (rest : List Live) → length words ≡ words_at shape unit → EachHasWords shape rest → EachHasWords shape (kept (live_with number unit words grid gs) ++ rest)
+words_one shape number unit words grid [] rest h f = f
+words_one shape number unit words grid (g ∷ gs) rest h f = (h, f)
 
-pub words_left : (shape : Shape) (nums at : List ℕ) (bag : List Live) → EachHasWords shape bag → EachHasWords shape (left_after nums at bag)
+pub words_left : (shape : Shape) (nums at : List ℕ) (bag : List Live) → EachHasWords shape bag → EachHasWords shape (left_after nums at None bag)
 words_left shape nums at [] f = tt
-words_left shape nums at (x ∷ bag) f = choice (words_left shape nums at bag f.1) (is_among nums x.number)
+words_left shape nums at (x ∷ bag) f = choice (words_left shape nums at bag f.1) (has_number nums x.number)
   where
-    choice : EachHasWords shape (left_after nums at bag) → (b : Bool) → EachHasWords shape (ran b at x ++ left_after nums at bag)
-    choice ih true = words_one shape x.number x.unit x.words (without_group at x.groups) (left_after nums at bag) f.0 ih
+    choice : EachHasWords shape (left_after nums at None bag) → (b : Bool) → EachHasWords shape (ran b at x ++ left_after nums at None bag)
+    choice ih true = words_one shape x.number x.unit x.words x.grid (without_group at x.groups) (left_after nums at None bag) f.0 ih
     choice ih false = (f.0, ih)
 
 pub words_born : (shape : Shape) (n : ℕ) (ss : List Sent) → Each (Arrives shape) ss → EachHasWords shape (flat_map kept (born shape n ss))
 words_born shape n [] a = tt
-words_born shape n (s ∷ ss) a = words_one shape n s.unit s.words (groups_of (grid_of (kind_at shape s.unit) s.words)) (flat_map kept (born shape (n + 1) ss)) a.0.words (words_born shape (n + 1) ss a.1)
+words_born shape n (s ∷ ss) a = words_one shape n s.unit s.words (grid_of (kind_at shape s.unit) s.words) (groups_of (grid_of (kind_at shape s.unit) s.words)) (flat_map kept (born shape (n + 1) ss)) a.0.words (words_born shape (n + 1) ss a.1)

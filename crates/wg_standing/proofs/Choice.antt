@@ -1,22 +1,22 @@
 -- The launch that is chosen is one that what is unopened allows.
-use Rattle.std.proofs.Common.{◌≡◌, ℕ, zero, suc, ◌+◌, ◌<◌, ◌≤◌, Bool, true, false, List, [], ◌∷◌, length, map, refl, ap, sym, ◌∙◌, subst, arith, inl, inr, ◌⊎◌, unwrap_or}
+use Rattle.std.proofs.Common.{◌≡◌, ℕ, zero, suc, ◌+◌, ◌<◌, ◌≤◌, Bool, true, false, List, [], ◌∷◌, length, refl, ap, sym, ◌∙◌, subst, arith, inl, inr, ◌⊎◌, unwrap_or}
 use Rattle.std.specs.Prelude.{if◌then◌else◌, ◌==◌, filter, take, take_while, slice_get, ⊤}
 use Rattle.std.specs.List.{prefix_len}
 use Rattle.std.proofs.lemmas.Bool.Decides.{nat_tests}
 use Rattle.wg_machine.specs.declared.launch.Live.{Live}
-use Rattle.wg_machine.specs.declared.launch.Record.{Record}
 use Rattle.wg_machine.specs.declared.shape.Kind.TheVariants.{Thread, Coalescing, Grid, GridField}
 use Rattle.wg_machine.specs.declared.shape.Kind.{Kind}
 use Rattle.wg_machine.specs.declared.shape.Shape.{Shape}
-use Rattle.wg_machine.specs.Step.{is_among, taken, record_of, numbers_of, IsReady, Allows}
+use Rattle.wg_machine.specs.Step.{IsReady, first_grid, has_number, taken}
 use Rattle.wg_machine.specs.Units.{kind_at, most_inputs}
 use Rattle.wg_machine.specs.Grids.{grid_of, has_group}
-use Rattle.wg_standing.specs.Standing.{Rises, IsFull, EachFull, origin, has_one_group}
-use Rattle.wg_standing.specs.Choice.{front_for, first_group, launch_from}
+use Rattle.wg_standing.specs.Standing.{Rises, IsFull, IsGridAt, EachFull, origin, has_one_group}
+use Rattle.wg_standing.specs.Outs.{IsAllowed}
+use Rattle.wg_standing.specs.Choice.{front_for, first_group, pending_from}
 use Rattle.wg_words.specs.Each.{Each}
 use Rattle.wg_standing.proofs.Allowed.{has_here, same_self}
 use Rattle.wg_standing.proofs.Rising.{numbers}
-use Rattle.wg_standing.proofs.Outs.{numbers_taken}
+use Rattle.wg_standing.proofs.Names.{Named, allowed_of, numbers_taken}
 
 -- some of a list, in its order
 abbrev pub IsSub : List Live → List Live → Type 0
@@ -46,7 +46,7 @@ sub_take (suc k) (x ∷ xs) (y ∷ ys) (inr b) = inr (sub_take (suc k) (x ∷ xs
 pub sub_while : (p : Live → Bool) (xs ys : List Live) → IsSub xs ys → IsSub (take_while p xs) ys
 sub_while p xs ys s = sub_take (prefix_len p xs) xs ys s
 
-sub_above : (n lo end : ℕ) (xs ys : List Live) → IsSub xs ys → Rises lo ys end → n < lo → is_among (numbers xs) n ≡ false
+sub_above : (n lo end : ℕ) (xs ys : List Live) → IsSub xs ys → Rises lo ys end → n < lo → has_number (numbers xs) n ≡ false
 sub_above n lo end [] ys s r h = refl
 sub_above n lo end (x ∷ xs) [] s r h = absurd s
 sub_above n lo end (x ∷ xs) (y ∷ ys) (inl a) r h =
@@ -77,7 +77,7 @@ taken_sub lo end (x ∷ xs) (y ∷ ys) (inl a) r =
     let k : taken (x.number ∷ numbers xs) ys ≡ xs = skip_first x.number (y.number + 1) end (numbers xs) ys r.1 (omega arith) ∙ taken_sub (y.number + 1) end xs ys a.1 r.1 in
     rw e (ap (λ (rest : List Live). y ∷ rest) k ∙ ap (λ (z : Live). z ∷ xs) (sym a.0))
 taken_sub lo end (x ∷ xs) (y ∷ ys) (inr b) r =
-    let e : is_among (numbers (x ∷ xs)) y.number ≡ false = sub_above y.number (y.number + 1) end (x ∷ xs) ys b r.1 (omega arith) in
+    let e : has_number (numbers (x ∷ xs)) y.number ≡ false = sub_above y.number (y.number + 1) end (x ∷ xs) ys b r.1 (omega arith) in
     subst (λ (t : Bool). (if t then y ∷ taken (numbers (x ∷ xs)) ys else taken (numbers (x ∷ xs)) ys) ≡ x ∷ xs) (sym e) (taken_sub (y.number + 1) end (x ∷ xs) ys b r.1)
 
 pub sub_full : (shape : Shape) (xs ys : List Live) → IsSub xs ys → EachFull shape ys → EachFull shape xs
@@ -89,7 +89,7 @@ sub_full shape (x ∷ xs) (y ∷ ys) (inr b) f = sub_full shape (x ∷ xs) ys b 
 -- all are of a unit, and full as its kind has it
 abbrev pub AllOf : ℕ → Kind → List Live → Type 0
 AllOf u k [] = ⊤
-AllOf u k (x ∷ xs) = (x.unit ≡ u) × (0 < length x.groups) × (has_one_group k ≡ true → x.groups ≡ origin ∷ []) × AllOf u k xs
+AllOf u k (x ∷ xs) = (x.unit ≡ u) × (0 < length x.groups) × (has_one_group k ≡ true → x.groups ≡ origin ∷ []) × ((words : List ℕ) × (x.grid ≡ grid_of k words)) × AllOf u k xs
 
 abbrev pub AllAt : ℕ → List Live → Type 0
 AllAt u [] = ⊤
@@ -97,7 +97,7 @@ AllAt u (x ∷ xs) = (x.unit ≡ u) × AllAt u xs
 
 all_of : (shape : Shape) (u : ℕ) (xs : List Live) → AllAt u xs → EachFull shape xs → AllOf u (kind_at shape u) xs
 all_of shape u [] a f = tt
-all_of shape u (x ∷ xs) a f = (a.0, f.0.some, λ e. f.0.whole (subst (λ (n : ℕ). has_one_group (kind_at shape n) ≡ true) (sym a.0) e), all_of shape u xs a.1 f.1)
+all_of shape u (x ∷ xs) a f = (a.0, f.0.some, λ e. f.0.whole (subst (λ (n : ℕ). has_one_group (kind_at shape n) ≡ true) (sym a.0) e), subst (λ (n : ℕ). IsGridAt shape n x.grid) a.0 f.0.grid, all_of shape u xs a.1 f.1)
 
 has_first : (gs : List (List ℕ)) → 0 < length gs → has_group gs (unwrap_or (slice_get gs 0) []) ≡ true
 has_first [] h = absurd (omega arith)
@@ -107,7 +107,7 @@ origins_ready : (u : ℕ) (k : Kind) (m : ℕ) (xs : List Live) → has_one_grou
 origins_ready u k zero xs e a = tt
 origins_ready u k (suc m) [] e a = tt
 origins_ready u k (suc m) (x ∷ xs) e a =
-    (record { unit_is = a.0; group_is = subst (λ (gs : List (List ℕ)). has_group gs origin ≡ true) (sym (a.2 e)) refl }, origins_ready u k m xs e a.3)
+    (record { unit_is = a.0; group_is = subst (λ (gs : List (List ℕ)). has_group gs origin ≡ true) (sym (a.2 e)) refl }, origins_ready u k m xs e a.4)
 
 first_ready : (u : ℕ) (k : Kind) (x : Live) (xs : List Live) → AllOf u k (x ∷ xs) → Each (IsReady u (first_group (x ∷ xs))) (take 1 (x ∷ xs))
 first_ready u k x xs a = (record { unit_is = a.0; group_is = has_first x.groups a.1 }, tt)
@@ -120,39 +120,52 @@ ready_from u (Coalescing m) x xs a =
 ready_from u (Grid p q r) x xs a = first_ready u (Grid p q r) x xs a
 ready_from u (GridField f n p q r) x xs a = first_ready u (GridField f n p q r) x xs a
 
-all_same : (m : ℕ) (words : List ℕ) (xs : List Live) → Each (λ (r : Record). grid_of (Coalescing m) words ≡ grid_of (Coalescing m) r.words) (map record_of xs)
-all_same m words [] = tt
-all_same m words (x ∷ xs) = (refl, all_same m words xs)
+one_grid : (k : Kind) (words : List ℕ) → has_one_group k ≡ true → grid_of k words ≡ 1 ∷ 1 ∷ 1 ∷ []
+one_grid Thread words e = refl
+one_grid (Coalescing m) words e = refl
+one_grid (Grid x y z) words e = absurd (cc)
+one_grid (GridField f n x y z) words e = absurd (cc)
 
-grid_from : (k : Kind) (x : Live) (xs : List Live) → Each (λ (r : Record). grid_of k x.words ≡ grid_of k r.words) (map record_of (take (most_inputs k) (x ∷ xs)))
-grid_from Thread x xs = (refl, tt)
-grid_from (Coalescing m) x xs = all_same m x.words (take m (x ∷ xs))
-grid_from (Grid p q s) x xs = (refl, tt)
-grid_from (GridField f n p q s) x xs = (refl, tt)
+-- records of a unit with one group have one grid
+grids_alike : (k : Kind) (g : List ℕ) (u : ℕ) (xs : List Live) → has_one_group k ≡ true → g ≡ 1 ∷ 1 ∷ 1 ∷ [] → AllOf u k xs → (m : ℕ) → Each (λ (r : Live). g ≡ r.grid) (take m xs)
+grids_alike k g u xs e q a zero = tt
+grids_alike k g u [] e q a (suc m) = tt
+grids_alike k g u (x ∷ xs) e q a (suc m) = (q ∙ sym (a.3.1 ∙ one_grid k a.3.0 e), grids_alike k g u xs e q a.4 m)
 
-length_some : (m : ℕ) (x : Live) (xs : List Live) → 1 ≤ m → 1 ≤ length (map record_of (take m (x ∷ xs)))
+grid_from : (k : Kind) (u : ℕ) (x : Live) (xs : List Live) → 1 ≤ most_inputs k → AllOf u k (x ∷ xs) → Each (λ (r : Live). first_grid (take (most_inputs k) (x ∷ xs)) ≡ r.grid) (take (most_inputs k) (x ∷ xs))
+grid_from Thread u x xs h a = (refl, tt)
+grid_from (Coalescing zero) u x xs h a = absurd (omega arith)
+grid_from (Coalescing (suc m)) u x xs h a = grids_alike (Coalescing (suc m)) x.grid u (x ∷ xs) refl (a.3.1 ∙ one_grid (Coalescing (suc m)) a.3.0 refl) a (suc m)
+grid_from (Grid p q s) u x xs h a = (refl, tt)
+grid_from (GridField f n p q s) u x xs h a = (refl, tt)
+
+length_some : (m : ℕ) (x : Live) (xs : List Live) → 1 ≤ m → 1 ≤ length (numbers (take m (x ∷ xs)))
 length_some zero x xs h = absurd (omega arith)
 length_some (suc m) x xs h = omega arith
 
-length_few : (m : ℕ) (xs : List Live) → length (map record_of (take m xs)) ≤ m
+length_few : (m : ℕ) (xs : List Live) → length (numbers (take m xs)) ≤ m
 length_few zero xs = omega arith
 length_few (suc m) [] = omega arith
 length_few (suc m) (x ∷ xs) = let k = length_few m xs in omega (arith, k)
 
 -- the launch that takes from the front of some is allowed
-pub allowed_from : (shape : Shape) (u lo end : ℕ) (xs ready : List Live) → IsSub xs ready → Rises lo ready end → EachFull shape ready → AllAt u xs → 0 < length xs → 1 ≤ most_inputs (kind_at shape u) → Allows shape ready (launch_from shape u xs) (first_group xs)
-allowed_from shape u lo end [] ready s r f a h m = absurd (omega arith)
-allowed_from shape u lo end (x ∷ xs) ready s r f a h m =
+pub allowed_from : (ticket : ℕ) (shape : Shape) (u lo end : ℕ) (xs ready : List Live) → IsSub xs ready → Rises lo ready end → EachFull shape ready → AllAt u xs → 0 < length xs → 1 ≤ most_inputs (kind_at shape u) → IsAllowed shape ready (pending_from ticket shape u xs)
+allowed_from ticket shape u lo end [] ready s r f a h m = absurd (omega arith)
+allowed_from ticket shape u lo end (x ∷ xs) ready s r f a h m =
     let k = kind_at shape u in
+    let o = pending_from ticket shape u (x ∷ xs) in
     let mine = front_for shape u (x ∷ xs) in
-    let t : taken (numbers_of (map record_of mine)) ready ≡ mine = ap (λ (ns : List ℕ). taken ns ready) (numbers_taken mine) ∙ taken_sub lo end mine ready (sub_take (most_inputs k) (x ∷ xs) ready s) r in
+    let inputs : o.inputs ≡ numbers mine = numbers_taken mine in
+    let t : taken o.inputs ready ≡ mine = ap (λ (ns : List ℕ). taken ns ready) inputs ∙ taken_sub lo end mine ready (sub_take (most_inputs k) (x ∷ xs) ready s) r in
     let all = all_of shape u (x ∷ xs) a (sub_full shape (x ∷ xs) ready s f) in
-    record {
-      records = sym (ap (map record_of) t);
-      some = length_some (most_inputs k) x xs m;
-      few = length_few (most_inputs k) (x ∷ xs);
-      ready = subst (Each (IsReady u (first_group (x ∷ xs)))) (sym t) (ready_from u k x xs all);
-      grid = grid_from k x xs;
-      group = refl;
-      last = refl;
-    }
+    let many = ap (λ (ns : List ℕ). length ns) inputs in
+    let some = length_some (most_inputs k) x xs m in
+    let few = length_few (most_inputs k) (x ∷ xs) in
+    let named : Named shape o mine = record {
+      named = sym inputs;
+      some = omega (arith, many, some);
+      few = omega (arith, many, few);
+      ready = ready_from u k x xs all;
+      grid = grid_from k u x xs m all;
+    } in
+    allowed_of shape ready o (subst (Named shape o) (sym t) named)

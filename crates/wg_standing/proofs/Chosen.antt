@@ -6,7 +6,7 @@ use Rattle.std.proofs.lemmas.Bool.Decides.{nat_tests, Decides-eqb}
 use Rattle.wg_standing.specs.declared.pending.Pending.{Pending}
 use Rattle.wg_machine.specs.declared.launch.Live.{Live}
 use Rattle.wg_machine.specs.declared.shape.Shape.{Shape}
-use Rattle.wg_standing.specs.Outs.{unopened, after_one, numbers_out}
+use Rattle.wg_standing.specs.Outs.{unopened, after_one}
 use Rattle.wg_standing.specs.Standing.{EachFull, IsPlaced, by_unit, in_slot, is_entry_record}
 use Rattle.wg_standing.specs.Core.{CoreView}
 use Rattle.wg_standing.specs.Choice.{CanOpen, IsChoice, from_slots, from_entries, waiting_at, next_entries, first_unit}
@@ -19,7 +19,7 @@ use Rattle.wg_standing.proofs.Blocks.{by_unit_at}
 
 pub full_unopened : (shape : Shape) (outs : List Pending) (bag : List Live) → EachFull shape bag → EachFull shape (unopened outs bag)
 full_unopened shape [] bag f = f
-full_unopened shape (o ∷ outs) bag f = full_unopened shape outs (after_one o bag) (full_left shape (numbers_out o) o.at bag f)
+full_unopened shape (o ∷ outs) bag f = full_unopened shape outs (after_one o bag) (full_left shape o.inputs o.at bag f)
 
 both_first : (a b : Bool) → (a && b) ≡ true → a ≡ true
 both_first true b e = refl
@@ -52,30 +52,28 @@ prefix_some (x ∷ xs) h =
     let k : 1 + prefix_len (λ (y : Live). y.unit == x.unit) xs ≡ suc (prefix_len (λ (y : Live). y.unit == x.unit) xs) = omega arith in
     subst (λ (b : Bool). 0 < length (take (if b then 1 + prefix_len (λ (y : Live). y.unit == x.unit) xs else 0) (x ∷ xs))) (sym (self_eq x.unit)) (subst (λ (m : ℕ). 0 < length (take m (x ∷ xs))) (sym k) (omega arith))
 
-pub choice_fine : (core : CoreView) (bag : List Live) (o : Pending) → IsGoodShape core.shape → IsPlaced core bag → IsChoice core o → CanOpen core bag o
-choice_fine core bag o good p (from_slots u pick) =
+pub choice_fine : (core : CoreView) (o : Pending) → IsGoodShape core.shape → IsPlaced core core.bag → IsChoice core o → CanOpen core o
+choice_fine core o good p (from_slots u pick) =
     let n = length core.shape.units in
-    let ready = unopened core.outs bag in
+    let ready = unopened core.outs core.bag in
     let within : u < n = let a = pick.within in let b = ap (λ (ws : List (List Live)). length ws) p.waits in let c = length_by_unit core.handed 0 n ready in omega (arith, a, b, c) in
     let z : 0 + u ≡ u = omega arith in
     let waits : waiting_at core u ≡ filter (in_slot core.handed u) ready = ap (λ (ws : List (List Live)). unwrap_or (slice_get ws u) []) p.waits ∙ by_unit_at core.handed 0 n u ready within ∙ ap (λ (v : ℕ). filter (in_slot core.handed v) ready) z in
     record {
-      allowed = allowed_from core.shape u 0 core.next (waiting_at core u) ready (subst (λ (xs : List Live). IsSub xs ready) (sym waits) (sub_filter (in_slot core.handed u) ready)) (rises_unopened 0 core.next core.outs bag p.rises) (full_unopened core.shape core.outs bag p.full) (subst (AllAt u) (sym waits) (slots_at core.handed u ready)) pick.waits (takes_some core.shape good u);
+      allowed = allowed_from core.tickets core.shape u 0 core.next (waiting_at core u) ready (subst (λ (xs : List Live). IsSub xs ready) (sym waits) (sub_filter (in_slot core.handed u) ready)) (rises_unopened 0 core.next core.outs core.bag p.rises) (full_unopened core.shape core.outs core.bag p.full) (subst (AllAt u) (sym waits) (slots_at core.handed u ready)) pick.waits (takes_some core.shape good u);
       room = pick.room;
       ticket = refl;
-      inputs = refl;
     }
   where
     length_by_unit : (handed v n : ℕ) (xs : List Live) → length (by_unit handed v n xs) ≡ n
     length_by_unit handed v zero xs = refl
     length_by_unit handed v (suc n) xs = ap suc (length_by_unit handed (v + 1) n xs)
-choice_fine core bag o good p (from_entries unpicked enters) =
-    let ready = unopened core.outs bag in
+choice_fine core o good p (from_entries unpicked enters) =
+    let ready = unopened core.outs core.bag in
     let u = first_unit core.entries in
     let sub : IsSub core.entries ready = subst (λ (xs : List Live). IsSub xs ready) (sym p.entries) (sub_filter (is_entry_record core.handed) ready) in
     record {
-      allowed = allowed_from core.shape u 0 core.next (next_entries core) ready (sub_while (λ (x : Live). x.unit == u) core.entries ready sub) (rises_unopened 0 core.next core.outs bag p.rises) (full_unopened core.shape core.outs bag p.full) (prefix_at u core.entries) (prefix_some core.entries enters.some) (takes_some core.shape good u);
+      allowed = allowed_from core.tickets core.shape u 0 core.next (next_entries core) ready (sub_while (λ (x : Live). x.unit == u) core.entries ready sub) (rises_unopened 0 core.next core.outs core.bag p.rises) (full_unopened core.shape core.outs core.bag p.full) (prefix_at u core.entries) (prefix_some core.entries enters.some) (takes_some core.shape good u);
       room = enters.room;
       ticket = refl;
-      inputs = refl;
     }

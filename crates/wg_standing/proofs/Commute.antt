@@ -1,13 +1,13 @@
 -- Launches take their groups in any order.
-use Rattle.std.proofs.Common.{◌≡◌, ℕ, Bool, true, false, List, [], ◌∷◌, ◌++◌, refl, ap, sym, ◌∙◌, arith, append_assoc}
+use Rattle.std.proofs.Common.{None, ◌≡◌, ℕ, Bool, true, false, List, [], ◌∷◌, ◌++◌, refl, ap, sym, ◌∙◌, arith, append_assoc}
 use Rattle.std.specs.Prelude.{if◌then◌else◌}
 use Rattle.std.proofs.lemmas.Bool.Decides.{nat_tests}
 use Rattle.wg_standing.specs.declared.pending.Pending.{Pending}
 use Rattle.wg_machine.specs.declared.launch.Live.{Live}
 use Rattle.wg_machine.specs.State.{kept}
-use Rattle.wg_machine.specs.Step.{left_after, is_among}
+use Rattle.wg_machine.specs.Step.{left_after, has_number}
 use Rattle.wg_machine.specs.Grids.{without_group, same_group}
-use Rattle.wg_standing.specs.Outs.{numbers_out, after_one, unopened}
+use Rattle.wg_standing.specs.Outs.{after_one, unopened}
 
 pub append_nil : {X : Type 0} → (xs : List X) → xs ++ [] ≡ xs
 append_nil [] = refl
@@ -36,44 +36,44 @@ without_comm a b (g ∷ gs) = choice (without_comm a b gs) (same_group g a) (sam
     choice ih false true e f = rw f refl
     choice ih false false e f = rw (e, f) (ap (λ (rest : List (List ℕ)). g ∷ rest) ih)
 
-pub left_append : (nums at : List ℕ) (xs ys : List Live) → left_after nums at (xs ++ ys) ≡ left_after nums at xs ++ left_after nums at ys
+pub left_append : (nums at : List ℕ) (xs ys : List Live) → left_after nums at None (xs ++ ys) ≡ left_after nums at None xs ++ left_after nums at None ys
 left_append nums at [] ys = refl
 left_append nums at (x ∷ xs) ys =
-    ap (λ (rest : List Live). (if is_among nums x.number then kept (record x { groups = without_group at x.groups }) else x ∷ []) ++ rest) (left_append nums at xs ys)
-    ∙ sym (append_assoc (if is_among nums x.number then kept (record x { groups = without_group at x.groups }) else x ∷ []) (left_after nums at xs) (left_after nums at ys))
+    ap (λ (rest : List Live). (if has_number nums x.number then kept (record x { groups = without_group at x.groups }) else x ∷ []) ++ rest) (left_append nums at xs ys)
+    ∙ sym (append_assoc (if has_number nums x.number then kept (record x { groups = without_group at x.groups }) else x ∷ []) (left_after nums at None xs) (left_after nums at None ys))
 
-abbrev pub live_with : ℕ → ℕ → List ℕ → List (List ℕ) → Live
-live_with number unit words groups = record { number = number; unit = unit; words = words; groups = groups }
+abbrev pub live_with : ℕ → ℕ → List ℕ → List ℕ → List (List ℕ) → Live
+live_with number unit words grid groups = record { number = number; unit = unit; words = words; grid = grid; groups = groups }
 
-pub left_kept : (nums at : List ℕ) (number unit : ℕ) (words : List ℕ) (gs : List (List ℕ)) → is_among nums number ≡ true → left_after nums at (kept (live_with number unit words gs)) ≡ kept (live_with number unit words (without_group at gs))
-left_kept nums at number unit words [] e = refl
-left_kept nums at number unit words (g ∷ gs) e = rw e (append_nil (kept (live_with number unit words (without_group at (g ∷ gs)))))
+pub left_kept : (nums at : List ℕ) (number unit : ℕ) (words grid : List ℕ) (gs : List (List ℕ)) → has_number nums number ≡ true → left_after nums at None (kept (live_with number unit words grid gs)) ≡ kept (live_with number unit words grid (without_group at gs))
+left_kept nums at number unit words grid [] e = refl
+left_kept nums at number unit words grid (g ∷ gs) e = rw e (append_nil (kept (live_with number unit words grid (without_group at (g ∷ gs)))))
 
-pub left_kept_not : (nums at : List ℕ) (number unit : ℕ) (words : List ℕ) (gs : List (List ℕ)) → is_among nums number ≡ false → left_after nums at (kept (live_with number unit words gs)) ≡ kept (live_with number unit words gs)
-left_kept_not nums at number unit words [] e = refl
-left_kept_not nums at number unit words (g ∷ gs) e = rw e refl
+pub left_kept_not : (nums at : List ℕ) (number unit : ℕ) (words grid : List ℕ) (gs : List (List ℕ)) → has_number nums number ≡ false → left_after nums at None (kept (live_with number unit words grid gs)) ≡ kept (live_with number unit words grid gs)
+left_kept_not nums at number unit words grid [] e = refl
+left_kept_not nums at number unit words grid (g ∷ gs) e = rw e refl
 
 abbrev pub ran : Bool → List ℕ → Live → List Live
 ran b at x = if b then kept (record x { groups = without_group at x.groups }) else x ∷ []
 
-left_ran : (n g m h : List ℕ) (x : Live) (s t : Bool) → is_among n x.number ≡ s → is_among m x.number ≡ t → left_after n g (ran t h x) ≡ left_after m h (ran s g x)
+left_ran : (n g m h : List ℕ) (x : Live) (s t : Bool) → has_number n x.number ≡ s → has_number m x.number ≡ t → left_after n g None (ran t h x) ≡ left_after m h None (ran s g x)
 left_ran n g m h x true true e f =
-    left_kept n g x.number x.unit x.words (without_group h x.groups) e
-    ∙ ap (λ (gs : List (List ℕ)). kept (live_with x.number x.unit x.words gs)) (without_comm g h x.groups)
-    ∙ sym (left_kept m h x.number x.unit x.words (without_group g x.groups) f)
+    left_kept n g x.number x.unit x.words x.grid (without_group h x.groups) e
+    ∙ ap (λ (gs : List (List ℕ)). kept (live_with x.number x.unit x.words x.grid gs)) (without_comm g h x.groups)
+    ∙ sym (left_kept m h x.number x.unit x.words x.grid (without_group g x.groups) f)
 left_ran n g m h x true false e f =
-    rw e (append_nil (kept (live_with x.number x.unit x.words (without_group g x.groups))) ∙ sym (left_kept_not m h x.number x.unit x.words (without_group g x.groups) f))
+    rw e (append_nil (kept (live_with x.number x.unit x.words x.grid (without_group g x.groups))) ∙ sym (left_kept_not m h x.number x.unit x.words x.grid (without_group g x.groups) f))
 left_ran n g m h x false true e f =
-    rw f (left_kept_not n g x.number x.unit x.words (without_group h x.groups) e ∙ sym (append_nil (kept (live_with x.number x.unit x.words (without_group h x.groups)))))
+    rw f (left_kept_not n g x.number x.unit x.words x.grid (without_group h x.groups) e ∙ sym (append_nil (kept (live_with x.number x.unit x.words x.grid (without_group h x.groups)))))
 left_ran n g m h x false false e f = rw (e, f) refl
 
-pub left_comm : (n g m h : List ℕ) (bag : List Live) → left_after n g (left_after m h bag) ≡ left_after m h (left_after n g bag)
+pub left_comm : (n g m h : List ℕ) (bag : List Live) → left_after n g None (left_after m h None bag) ≡ left_after m h None (left_after n g None bag)
 left_comm n g m h [] = refl
 left_comm n g m h (x ∷ bag) =
-    left_append n g (ran (is_among m x.number) h x) (left_after m h bag)
-    ∙ ap (λ (first : List Live). first ++ left_after n g (left_after m h bag)) (left_ran n g m h x (is_among n x.number) (is_among m x.number) refl refl)
-    ∙ ap (λ (rest : List Live). left_after m h (ran (is_among n x.number) g x) ++ rest) (left_comm n g m h bag)
-    ∙ sym (left_append m h (ran (is_among n x.number) g x) (left_after n g bag))
+    left_append n g (ran (has_number m x.number) h x) (left_after m h None bag)
+    ∙ ap (λ (first : List Live). first ++ left_after n g None (left_after m h None bag)) (left_ran n g m h x (has_number n x.number) (has_number m x.number) refl refl)
+    ∙ ap (λ (rest : List Live). left_after m h None (ran (has_number n x.number) g x) ++ rest) (left_comm n g m h bag)
+    ∙ sym (left_append m h (ran (has_number n x.number) g x) (left_after n g None bag))
 
 pub unopened_append : (xs ys : List Pending) (bag : List Live) → unopened (xs ++ ys) bag ≡ unopened ys (unopened xs bag)
 unopened_append [] ys bag = refl
@@ -82,7 +82,7 @@ unopened_append (x ∷ xs) ys bag = unopened_append xs ys (after_one x bag)
 pub unopened_after : (o : Pending) (outs : List Pending) (bag : List Live) → unopened outs (after_one o bag) ≡ after_one o (unopened outs bag)
 unopened_after o [] bag = refl
 unopened_after o (p ∷ outs) bag =
-    ap (unopened outs) (left_comm (numbers_out p) p.at (numbers_out o) o.at bag) ∙ unopened_after o outs (after_one p bag)
+    ap (unopened outs) (left_comm p.inputs p.at o.inputs o.at bag) ∙ unopened_after o outs (after_one p bag)
 
 -- what is unopened is the same where one in the middle has made its step
 pub unopened_settled : (xs : List Pending) (o : Pending) (ys : List Pending) (bag : List Live) → unopened (xs ++ o ∷ ys) bag ≡ unopened (xs ++ ys) (after_one o bag)
@@ -94,4 +94,4 @@ unopened_settled xs o ys bag =
 pub unopened_both : (outs : List Pending) (a b : List Live) → unopened outs (a ++ b) ≡ unopened outs a ++ unopened outs b
 unopened_both [] a b = refl
 unopened_both (o ∷ outs) a b =
-    ap (unopened outs) (left_append (numbers_out o) o.at a b) ∙ unopened_both outs (after_one o a) (after_one o b)
+    ap (unopened outs) (left_append o.inputs o.at a b) ∙ unopened_both outs (after_one o a) (after_one o b)

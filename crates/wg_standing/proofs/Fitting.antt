@@ -1,5 +1,5 @@
 -- Launches out fit the shape.
-use Rattle.std.proofs.Common.{◌≡◌, ℕ, ◌+◌, ◌*◌, ◌^◌, ◌<◌, ◌≤◌, Bool, true, false, List, [], ◌∷◌, ◌++◌, length, map, ap, sym, ◌∙◌, subst, arith, inl, inr, min}
+use Rattle.std.proofs.Common.{◌≡◌, ℕ, ◌+◌, ◌*◌, ◌^◌, ◌<◌, ◌≤◌, Bool, true, false, List, [], ◌∷◌, ◌++◌, length, map, refl, ap, sym, ◌∙◌, subst, arith, inl, inr, min}
 use Rattle.std.specs.Prelude.{if◌then◌else◌, slice_index, nat_lt}
 use Rattle.std.proofs.lemmas.Bool.Decides.{nat_tests}
 use Rattle.wg_words.specs.Each.{Each}
@@ -12,19 +12,20 @@ use Rattle.wg_machine.specs.declared.launch.Record.{Record}
 use Rattle.wg_machine.specs.GoodShape.{IsGoodShape, IsGoodKind}
 use Rattle.wg_machine.specs.Grids.{clipped, grid_of, groups_in, place_of, same_group, has_group}
 use Rattle.wg_machine.specs.LaunchMeaning.{FitsShape, HasGridOf}
-use Rattle.wg_machine.specs.Step.{Allows, IsReady, is_among, record_of, taken}
-use Rattle.wg_machine.specs.Units.{kind_at, words_at}
+use Rattle.wg_machine.specs.Step.{IsReady, has_number, record_of, taken}
+use Rattle.wg_machine.specs.Units.{kind_at, most_inputs, words_at}
 use Rattle.wg_standing.specs.declared.pending.Pending.{Pending}
 use Rattle.wg_standing.specs.Core.{CoreView}
-use Rattle.wg_standing.specs.Outs.{numbers_out, AllAllowed}
-use Rattle.wg_standing.specs.Standing.{IsPlaced, IsFull, IsWithin, EachFull, EachKnown, EachHasWords}
+use Rattle.wg_standing.specs.Outs.{AllAllowed, launch_now}
+use Rattle.wg_standing.specs.Standing.{IsPlaced, IsFull, IsGridAt, IsWithin, EachFull, EachKnown, EachHasWords}
 use Rattle.wg_standing.proofs.Allowed.{has_cases}
+use Rattle.wg_standing.proofs.Names.{named_of}
 use Rattle.wg_standing.proofs.Outs.{one_of}
 use Rattle.wg_standing.proofs.Shapes.{kind_good}
 
 each_taken : (P : Live → Type 0) (nums : List ℕ) (bag : List Live) → Each P bag → Each P (taken nums bag)
 each_taken P nums [] e = tt
-each_taken P nums (x ∷ bag) e = choice (is_among nums x.number) (each_taken P nums bag e.1)
+each_taken P nums (x ∷ bag) e = choice (has_number nums x.number) (each_taken P nums bag e.1)
   where
     choice : (b : Bool) → Each P (taken nums bag) → Each P (if b then x ∷ taken nums bag else taken nums bag)
     choice true ih = (e.0, ih)
@@ -100,45 +101,46 @@ grid_few (GridField f m x y z) n words g =
     omega (arith, t, p)
 
 -- what a launch takes, of a unit
-record Takes (shape : Shape) (unit : ℕ) (at : List ℕ) (x : Live) : Type 0 where
+record Taken (shape : Shape) (unit : ℕ) (at : List ℕ) (x : Live) : Type 0 where
   ready : IsReady unit at x
   full : IsFull shape x
   known : x.unit < length shape.units
   words : length x.words ≡ words_at shape x.unit
 
-all_takes : (shape : Shape) (unit : ℕ) (at : List ℕ) (xs : List Live) → Each (IsReady unit at) xs → EachFull shape xs → EachKnown (length shape.units) xs → EachHasWords shape xs → Each (Takes shape unit at) xs
+all_takes : (shape : Shape) (unit : ℕ) (at : List ℕ) (xs : List Live) → Each (IsReady unit at) xs → EachFull shape xs → EachKnown (length shape.units) xs → EachHasWords shape xs → Each (Taken shape unit at) xs
 all_takes shape unit at [] r f k w = tt
 all_takes shape unit at (x ∷ xs) r f k w = (record { ready = r.0; full = f.0; known = k.0; words = w.0 }, all_takes shape unit at xs r.1 f.1 k.1 w.1)
 
-all_words : (shape : Shape) (unit : ℕ) (at : List ℕ) (xs : List Live) → Each (Takes shape unit at) xs → Each (λ (r : Record). length r.words ≡ words_at shape unit) (map record_of xs)
+all_words : (shape : Shape) (unit : ℕ) (at : List ℕ) (xs : List Live) → Each (Taken shape unit at) xs → Each (λ (r : Record). length r.words ≡ words_at shape unit) (map record_of xs)
 all_words shape unit at [] t = tt
 all_words shape unit at (x ∷ xs) t = (t.0.words ∙ ap (words_at shape) t.0.ready.unit_is, all_words shape unit at xs t.1)
 
-fits_from : (shape : Shape) (l : Launch) (at : List ℕ) (mine : List Live) → IsGoodShape shape → Each (Takes shape l.unit at) mine → l.records ≡ map record_of mine → (bag : List Live) → Allows shape bag l at → FitsShape shape l
-fits_from shape l at [] good t e bag a = let z = ap (λ (rs : List Record). length rs) e in let s = a.some in absurd (omega (arith, z, s))
-fits_from shape l at (x ∷ mine) good t e bag a =
+fits_from : (shape : Shape) (l : Launch) (at : List ℕ) (mine : List Live) → IsGoodShape shape → Each (Taken shape l.unit at) mine → l.records ≡ map record_of mine → 1 ≤ length l.records → length l.records ≤ most_inputs (kind_at shape l.unit) → Each (λ (r : Live). l.grid ≡ r.grid) mine → l.group ≡ place_of l.grid at → FitsShape shape l
+fits_from shape l at [] good t e some few grids group = let z = ap (λ (rs : List Record). length rs) e in absurd (omega (arith, z, some))
+fits_from shape l at (x ∷ mine) good t e some few grids group =
     let k = kind_at shape l.unit in
-    let grids = subst (λ (rs : List Record). Each (λ (r : Record). l.grid ≡ grid_of k r.words) rs) e a.grid in
-    let grid : l.grid ≡ grid_of k x.words = grids.0 in
     let same = t.0.ready.unit_is in
-    let groups = subst (λ (u : ℕ). Each (IsWithin (grid_of (kind_at shape u) x.words)) x.groups) same t.0.full.within in
-    let within = subst (λ (g : List ℕ). IsWithin g at) (sym grid) (within_has (grid_of k x.words) at x.groups groups t.0.ready.group_is) in
+    let birth = subst (λ (u : ℕ). IsGridAt shape u x.grid) same t.0.full.grid in
+    let grid : l.grid ≡ grid_of k birth.0 = grids.0 ∙ birth.1 in
+    let within = subst (λ (g : List ℕ). IsWithin g at) (sym grids.0) (within_has x.grid at x.groups t.0.full.within t.0.ready.group_is) in
     let place = place_within l.grid at within in
     record {
       unit = subst (λ (u : ℕ). u < length shape.units) same t.0.known;
-      some = a.some;
-      few = a.few;
+      some = some;
+      few = few;
       words = subst (λ (rs : List Record). Each (λ (r : Record). length r.words ≡ words_at shape l.unit) rs) (sym e) (all_words shape l.unit at (x ∷ mine) t);
       grid_some = omega (arith, place);
-      grid_few = subst (λ (g : List ℕ). groups_in g < 2 ^ 24) (sym grid) (grid_few k (words_at shape l.unit) x.words (kind_good shape l.unit good));
-      group = subst (λ (n : ℕ). n < groups_in l.grid) (sym a.group) place;
-      grid = has_grid k l.grid x.words grid;
+      grid_few = subst (λ (g : List ℕ). groups_in g < 2 ^ 24) (sym grid) (grid_few k (words_at shape l.unit) birth.0 (kind_good shape l.unit good));
+      group = subst (λ (n : ℕ). n < groups_in l.grid) (sym group) place;
+      grid = has_grid k l.grid birth.0 grid;
     }
 
-pub out_fits : (core : CoreView) (bag : List Live) (before : List Pending) (o : Pending) (later : List Pending) → IsGoodShape core.shape → core.outs ≡ before ++ o ∷ later → IsPlaced core bag → FitsShape core.shape o.launch
-out_fits core bag before o later good was_out p =
+pub out_fits : (core : CoreView) (before : List Pending) (o : Pending) (later : List Pending) → IsGoodShape core.shape → core.outs ≡ before ++ o ∷ later → IsPlaced core core.bag → FitsShape core.shape (launch_now core.shape core.bag o)
+out_fits core before o later good was_out p =
+    let bag = core.bag in
     let a = one_of core.shape bag before o later (subst (AllAllowed core.shape bag) was_out p.allowed) in
-    let nums = numbers_out o in
+    let n = named_of core.shape bag o a in
+    let nums = o.inputs in
     let mine = taken nums bag in
-    let all = all_takes core.shape o.launch.unit o.at mine a.ready (each_taken (IsFull core.shape) nums bag p.full) (each_taken (λ (x : Live). x.unit < length core.shape.units) nums bag p.known) (each_taken (λ (x : Live). length x.words ≡ words_at core.shape x.unit) nums bag p.words) in
-    fits_from core.shape o.launch o.at mine good all a.records bag a
+    let all = all_takes core.shape o.unit o.at mine n.ready (each_taken (IsFull core.shape) nums bag p.full) (each_taken (λ (x : Live). x.unit < length core.shape.units) nums bag p.known) (each_taken (λ (x : Live). length x.words ≡ words_at core.shape x.unit) nums bag p.words) in
+    fits_from core.shape (launch_now core.shape bag o) o.at mine good all refl a.allowed.some a.allowed.few n.grid refl

@@ -1,5 +1,5 @@
 -- No group stands twice in a grid.
-use Rattle.std.proofs.Common.{◌≡◌, ℕ, zero, suc, ◌+◌, ◌<◌, ◌≤◌, Bool, true, false, List, [], ◌∷◌, ◌++◌, map, refl, sym, subst, arith}
+use Rattle.std.proofs.Common.{◌≡◌, ℕ, zero, suc, ◌+◌, ◌<◌, ◌≤◌, Bool, true, false, List, [], ◌∷◌, ◌++◌, length, map, refl, sym, subst, arith}
 use Rattle.std.specs.Prelude.{◌==◌, ◌&&◌, slice_index, nat_le}
 use Rattle.std.specs.List.{flat_map, range_with_len}
 use Rattle.std.proofs.lemmas.Bool.Decides.{nat_tests}
@@ -49,11 +49,15 @@ at_most : (b : Bool) (k n : ℕ) → n ≤ pay b k → n ≤ k
 at_most true k n h = h
 at_most false k n h = omega arith
 
-both : (p q r : Bool) → pay ((p && q) && r) 1 ≤ pay p (pay q (pay r 1))
-both true true true = omega arith
-both true true false = omega arith
-both true false r = omega arith
-both false q r = omega arith
+both : (l p q r : Bool) → pay (((l && p) && q) && r) 1 ≤ pay p (pay q (pay r 1))
+both true true true true = omega arith
+both true true true false = omega arith
+both true true false r = omega arith
+both true false q r = omega arith
+both false true true true = omega arith
+both false true true false = omega arith
+both false true false r = omega arith
+both false false q r = omega arith
 
 pub times_grid : (at grid : List ℕ) → times at (groups_of grid) ≤ 1
 times_grid at grid =
@@ -63,13 +67,13 @@ times_grid at grid =
     planes at _ (slice_index at 1) (pay (z == slice_index at 2) 1) 0 (slice_index grid 1) (λ y.
     at_most (nat_le 0 (slice_index at 0)) (pay (y == slice_index at 1) (pay (z == slice_index at 2) 1)) _ (
     rows at (λ x. x ∷ y ∷ z ∷ []) (slice_index at 0) (pay (y == slice_index at 1) (pay (z == slice_index at 2) 1)) 0 (slice_index grid 0) (λ x.
-    both (x == slice_index at 0) (y == slice_index at 1) (z == slice_index at 2)))))))
+    both (3 == length at) (x == slice_index at 0) (y == slice_index at 1) (z == slice_index at 2)))))))
 
 pub distinct_born : (shape : Shape) (n : ℕ) (ss : List Sent) → EachDistinct (flat_map kept (born shape n ss))
 distinct_born shape n [] = tt
 distinct_born shape n (s ∷ ss) = go (groups_of (grid_of (kind_at shape s.unit) s.words)) (λ at. times_grid at (grid_of (kind_at shape s.unit) s.words)) (distinct_born shape (n + 1) ss)
   where
-    go : (gs : List (List ℕ)) → ((at : List ℕ) → times at gs ≤ 1) → EachDistinct (flat_map kept (born shape (n + 1) ss)) → EachDistinct (kept (live_with n s.unit s.words gs) ++ flat_map kept (born shape (n + 1) ss))
+    go : (gs : List (List ℕ)) → ((at : List ℕ) → times at gs ≤ 1) → EachDistinct (flat_map kept (born shape (n + 1) ss)) → EachDistinct (kept (live_with n s.unit s.words (grid_of (kind_at shape s.unit) s.words) gs) ++ flat_map kept (born shape (n + 1) ss))
     go [] t d = d
     go (g ∷ gs) t d = (t, d)
 

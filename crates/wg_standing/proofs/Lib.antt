@@ -9,6 +9,7 @@ pub mod Counting
 pub mod Fitting
 pub mod Grids
 pub mod Lists
+pub mod Names
 pub mod Opening
 pub mod OutLess
 pub mod OutMore
@@ -19,3 +20,4 @@ pub mod Shapes
 pub mod Slots
 pub mod Stands
 pub mod Still
+pub mod Words

@@ -1,9 +1,9 @@
 -- Lists by unit.
-use Rattle.std.proofs.Common.{◌≡◌, ℕ, zero, suc, ◌+◌, Bool, true, false, List, [], ◌∷◌, ◌++◌, map, refl, ap, sym, ◌∙◌}
+use Rattle.std.proofs.Common.{None, ◌≡◌, ℕ, zero, suc, ◌+◌, Bool, true, false, List, [], ◌∷◌, ◌++◌, map, refl, ap, sym, ◌∙◌}
 use Rattle.std.specs.Prelude.{if◌then◌else◌, ◌==◌, ◌&&◌, filter, nat_le}
 use Rattle.wg_machine.specs.declared.launch.Live.{Live}
 use Rattle.wg_machine.specs.State.{kept}
-use Rattle.wg_machine.specs.Step.{left_after, is_among}
+use Rattle.wg_machine.specs.Step.{left_after, has_number}
 use Rattle.wg_machine.specs.Grids.{without_group}
 use Rattle.wg_standing.specs.Standing.{by_unit, in_slot}
 use Rattle.wg_standing.specs.Moves.{all_more}
@@ -24,37 +24,37 @@ those_append p (x ∷ xs) ys = choice (those_append p xs ys) (p x.unit x.number)
     choice ih true = ap (λ (rest : List Live). x ∷ rest) ih
     choice ih false = ih
 
-those_kept : (p : Test) (number unit : ℕ) (words : List ℕ) (gs : List (List ℕ)) (b : Bool) → p unit number ≡ b → those p (kept (live_with number unit words gs)) ≡ (if b then kept (live_with number unit words gs) else [])
-those_kept p number unit words [] true e = refl
-those_kept p number unit words [] false e = refl
-those_kept p number unit words (g ∷ gs) true e = rw e refl
-those_kept p number unit words (g ∷ gs) false e = rw e refl
+those_kept : (p : Test) (number unit : ℕ) (words grid : List ℕ) (gs : List (List ℕ)) (b : Bool) → p unit number ≡ b → those p (kept (live_with number unit words grid gs)) ≡ (if b then kept (live_with number unit words grid gs) else [])
+those_kept p number unit words grid [] true e = refl
+those_kept p number unit words grid [] false e = refl
+those_kept p number unit words grid (g ∷ gs) true e = rw e refl
+those_kept p number unit words grid (g ∷ gs) false e = rw e refl
 
 those_ran : (p : Test) (other : List ℕ) (x : Live) (t b : Bool) → p x.unit x.number ≡ b → those p (ran t other x) ≡ (if b then ran t other x else [])
-those_ran p other x true b e = those_kept p x.number x.unit x.words (without_group other x.groups) b e
+those_ran p other x true b e = those_kept p x.number x.unit x.words x.grid (without_group other x.groups) b e
 those_ran p other x false true e = rw e refl
 those_ran p other x false false e = rw e refl
 
 -- a launch takes its group from those that pass as from all
-pub those_left : (p : Test) (nums other : List ℕ) (bag : List Live) → left_after nums other (those p bag) ≡ those p (left_after nums other bag)
+pub those_left : (p : Test) (nums other : List ℕ) (bag : List Live) → left_after nums other None (those p bag) ≡ those p (left_after nums other None bag)
 those_left p nums other [] = refl
 those_left p nums other (x ∷ bag) = choice (those_left p nums other bag) (p x.unit x.number) refl
   where
-    choice : left_after nums other (those p bag) ≡ those p (left_after nums other bag) → (b : Bool) → p x.unit x.number ≡ b → left_after nums other (if b then x ∷ those p bag else those p bag) ≡ those p (ran (is_among nums x.number) other x ++ left_after nums other bag)
+    choice : left_after nums other None (those p bag) ≡ those p (left_after nums other None bag) → (b : Bool) → p x.unit x.number ≡ b → left_after nums other None (if b then x ∷ those p bag else those p bag) ≡ those p (ran (has_number nums x.number) other x ++ left_after nums other None bag)
     choice ih true e =
-        ap (λ (rest : List Live). ran (is_among nums x.number) other x ++ rest) ih
-        ∙ ap (λ (first : List Live). first ++ those p (left_after nums other bag)) (sym (those_ran p other x (is_among nums x.number) true e))
-        ∙ sym (those_append p (ran (is_among nums x.number) other x) (left_after nums other bag))
+        ap (λ (rest : List Live). ran (has_number nums x.number) other x ++ rest) ih
+        ∙ ap (λ (first : List Live). first ++ those p (left_after nums other None bag)) (sym (those_ran p other x (has_number nums x.number) true e))
+        ∙ sym (those_append p (ran (has_number nums x.number) other x) (left_after nums other None bag))
     choice ih false e =
         ih
-        ∙ ap (λ (first : List Live). first ++ those p (left_after nums other bag)) (sym (those_ran p other x (is_among nums x.number) false e))
-        ∙ sym (those_append p (ran (is_among nums x.number) other x) (left_after nums other bag))
+        ∙ ap (λ (first : List Live). first ++ those p (left_after nums other None bag)) (sym (those_ran p other x (has_number nums x.number) false e))
+        ∙ sym (those_append p (ran (has_number nums x.number) other x) (left_after nums other None bag))
 
-pub by_unit_left : (handed v n : ℕ) (nums other : List ℕ) (bag : List Live) → map (left_after nums other) (by_unit handed v n bag) ≡ by_unit handed v n (left_after nums other bag)
+pub by_unit_left : (handed v n : ℕ) (nums other : List ℕ) (bag : List Live) → map (left_after nums other None) (by_unit handed v n bag) ≡ by_unit handed v n (left_after nums other None bag)
 by_unit_left handed v zero nums other bag = refl
 by_unit_left handed v (suc n) nums other bag =
-    ap (λ (first : List Live). first ∷ map (left_after nums other) (by_unit handed (v + 1) n bag)) (those_left (λ u m. (u == v) && nat_le handed m) nums other bag)
-    ∙ ap (λ (rest : List (List Live)). filter (in_slot handed v) (left_after nums other bag) ∷ rest) (by_unit_left handed (v + 1) n nums other bag)
+    ap (λ (first : List Live). first ∷ map (left_after nums other None) (by_unit handed (v + 1) n bag)) (those_left (λ u m. (u == v) && nat_le handed m) nums other bag)
+    ∙ ap (λ (rest : List (List Live)). filter (in_slot handed v) (left_after nums other None bag) ∷ rest) (by_unit_left handed (v + 1) n nums other bag)
 
 pub by_unit_append : (handed v n : ℕ) (bag fresh : List Live) → all_more handed v fresh (by_unit handed v n bag) ≡ by_unit handed v n (bag ++ fresh)
 by_unit_append handed v zero bag fresh = refl

@@ -1,17 +1,16 @@
 -- A launch that what is not yet opened allows is one that the bag allows, apart from those that are out.
-use Rattle.std.proofs.Common.{◌≡◌, ℕ, ◌+◌, ◌≤◌, Bool, true, false, ◌||◌, cond, List, [], ◌∷◌, ◌++◌, map, refl, ap, sym, ◌∙◌, subst, arith, inl, inr, ◌⊎◌}
+use Rattle.std.proofs.Common.{None, ◌≡◌, ℕ, ◌+◌, ◌≤◌, Bool, true, false, ◌||◌, cond, List, [], ◌∷◌, ◌++◌, map, refl, ap, sym, ◌∙◌, subst, arith, inl, inr, ◌⊎◌}
 use Rattle.std.specs.Prelude.{if◌then◌else◌, ◌==◌}
 use Rattle.std.proofs.lemmas.List.Sums.{sum_by-cons}
 use Rattle.wg_machine.specs.declared.launch.Live.{Live}
-use Rattle.wg_machine.specs.declared.launch.Record.{Record}
 use Rattle.wg_machine.specs.State.{kept}
-use Rattle.wg_machine.specs.Step.{left_after, is_among, taken, record_of, IsReady}
+use Rattle.wg_machine.specs.Step.{left_after, has_number, taken, IsReady}
 use Rattle.wg_machine.specs.Grids.{without_group, same_group, has_group}
 use Rattle.wg_machine.specs.Run.{times}
 use Rattle.wg_standing.specs.Standing.{Rises, EachDistinct}
 use Rattle.wg_words.specs.Each.{Each}
 use Rattle.wg_standing.proofs.Commute.{live_with, ran, same_as}
-use Rattle.wg_standing.proofs.Allowed.{has_cases, has_here, has_more, taken_append, taken_ran_not}
+use Rattle.wg_standing.proofs.Allowed.{bare, has_cases, has_here, has_more, taken_append, taken_ran_not}
 use Rattle.wg_standing.proofs.Rising.{rises_left, numbers, among_none, among_ran}
 
 pub times_cons : (at g : List ℕ) (gs : List (List ℕ)) → times at (g ∷ gs) ≡ (if same_group g at then 1 else 0) + times at gs
@@ -61,83 +60,83 @@ without_other at other (g ∷ gs) t c = choice (λ u d. without_other at other g
         ]
 
 abbrev pub Covers : List ℕ → ℕ → List Live → Type 0
-Covers nums lo rest = (n : ℕ) → is_among nums n ≡ true → lo ≤ n → is_among (numbers rest) n ≡ true
+Covers nums lo rest = (n : ℕ) → has_number nums n ≡ true → lo ≤ n → has_number (numbers rest) n ≡ true
 
-record WasOne (unit : ℕ) (at nums : List ℕ) (number u : ℕ) (words : List ℕ) (gs : List (List ℕ)) (rest : List Live) : Type 0 where
+record WasOne (unit : ℕ) (at nums : List ℕ) (number u : ℕ) (words grid : List ℕ) (gs : List (List ℕ)) (rest : List Live) : Type 0 where
   unit_is : u ≡ unit
   group_is : has_group gs at ≡ true
   ready : Each (IsReady unit at) (taken nums rest)
-  records : map record_of (taken nums (kept (live_with number u words gs) ++ rest)) ≡ record { number = number; words = words } ∷ map record_of (taken nums rest)
+  records : map bare (taken nums (kept (live_with number u words grid gs) ++ rest)) ≡ live_with number u words grid [] ∷ map bare (taken nums rest)
 
-was_one : (unit : ℕ) (at nums : List ℕ) (number u end : ℕ) (words : List ℕ) (gs : List (List ℕ)) (rest : List Live) → is_among nums number ≡ true → Rises (number + 1) rest end → is_among (numbers (kept (live_with number u words gs) ++ rest)) number ≡ true → Each (IsReady unit at) (taken nums (kept (live_with number u words gs) ++ rest)) → WasOne unit at nums number u words gs rest
-was_one unit at nums number u end words [] rest e r there ready =
+was_one : (unit : ℕ) (at nums : List ℕ) (number u end : ℕ) (words grid : List ℕ) (gs : List (List ℕ)) (rest : List Live) → has_number nums number ≡ true → Rises (number + 1) rest end → has_number (numbers (kept (live_with number u words grid gs) ++ rest)) number ≡ true → Each (IsReady unit at) (taken nums (kept (live_with number u words grid gs) ++ rest)) → WasOne unit at nums number u words grid gs rest
+was_one unit at nums number u end words grid [] rest e r there ready =
     let none = among_none number (number + 1) end rest r (omega arith) in absurd (cc)
-was_one unit at nums number u end words (g ∷ gs) rest e r there ready =
-    let x = live_with number u words (g ∷ gs) in
+was_one unit at nums number u end words grid (g ∷ gs) rest e r there ready =
+    let x = live_with number u words grid (g ∷ gs) in
     let a = subst (λ (b : Bool). Each (IsReady unit at) (if b then x ∷ taken nums rest else taken nums rest)) e ready in
     record { unit_is = a.0.unit_is; group_is = a.0.group_is; ready = a.1; records = rw e refl }
 
 pub record WasReady (unit : ℕ) (at nums others other : List ℕ) (old new : List Live) : Type 0 where
-  pub records : map record_of (taken nums new) ≡ map record_of (taken nums old)
+  pub records : map bare (taken nums new) ≡ map bare (taken nums old)
   pub ready : Each (IsReady unit at) (taken nums old)
-  pub apart : (n : ℕ) → is_among others n ≡ true → is_among nums n ≡ true → is_among (numbers new) n ≡ true → same_group other at ≡ false
+  pub apart : (n : ℕ) → has_number others n ≡ true → has_number nums n ≡ true → has_number (numbers new) n ≡ true → same_group other at ≡ false
 
-pub was : (unit : ℕ) (at nums other others : List ℕ) (lo end : ℕ) (bag : List Live) → Rises lo bag end → EachDistinct bag → Covers nums lo (left_after others other bag) → Each (IsReady unit at) (taken nums (left_after others other bag)) → WasReady unit at nums others other bag (left_after others other bag)
+pub was : (unit : ℕ) (at nums other others : List ℕ) (lo end : ℕ) (bag : List Live) → Rises lo bag end → EachDistinct bag → Covers nums lo (left_after others other None bag) → Each (IsReady unit at) (taken nums (left_after others other None bag)) → WasReady unit at nums others other bag (left_after others other None bag)
 was unit at nums other others lo end [] rises distinct covers r = record { records = refl; ready = tt; apart = λ n e f g. absurd (cc) }
-was unit at nums other others lo end (x ∷ bag) rises distinct covers r = choice (λ c a. was unit at nums other others (x.number + 1) end bag rises.1 distinct.1 c a) (is_among nums x.number) (is_among others x.number) refl refl covers r
+was unit at nums other others lo end (x ∷ bag) rises distinct covers r = choice (λ c a. was unit at nums other others (x.number + 1) end bag rises.1 distinct.1 c a) (has_number nums x.number) (has_number others x.number) refl refl covers r
   where
     rest : List Live
-    rest = left_after others other bag
+    rest = left_after others other None bag
 
-    tail : (t : Bool) → Covers nums lo (ran t other x ++ left_after others other bag) → Covers nums (x.number + 1) (left_after others other bag)
+    tail : (t : Bool) → Covers nums lo (ran t other x ++ left_after others other None bag) → Covers nums (x.number + 1) (left_after others other None bag)
     tail t c n e h =
         let low = rises.0 in
-        elim (among_ran other x (left_after others other bag) t n (c n e (omega arith))) [
+        elim (among_ran other x (left_after others other None bag) t n (c n e (omega arith))) [
           | inl q ↦ absurd (omega arith)
           | inr k ↦ k
         ]
 
-    tail_ready : (t : Bool) → is_among nums x.number ≡ false → Each (IsReady unit at) (taken nums (ran t other x ++ left_after others other bag)) → Each (IsReady unit at) (taken nums (left_after others other bag))
-    tail_ready t e a = subst (Each (IsReady unit at)) (taken_append nums (ran t other x) (left_after others other bag) ∙ ap (λ (first : List Live). first ++ taken nums (left_after others other bag)) (taken_ran_not nums other x t e)) a
+    tail_ready : (t : Bool) → has_number nums x.number ≡ false → Each (IsReady unit at) (taken nums (ran t other x ++ left_after others other None bag)) → Each (IsReady unit at) (taken nums (left_after others other None bag))
+    tail_ready t e a = subst (Each (IsReady unit at)) (taken_append nums (ran t other x) (left_after others other None bag) ∙ ap (λ (first : List Live). first ++ taken nums (left_after others other None bag)) (taken_ran_not nums other x t e)) a
 
-    choice : (Covers nums (x.number + 1) (left_after others other bag) → Each (IsReady unit at) (taken nums (left_after others other bag)) → WasReady unit at nums others other bag (left_after others other bag)) → (s t : Bool) → is_among nums x.number ≡ s → is_among others x.number ≡ t → Covers nums lo (ran t other x ++ left_after others other bag) → Each (IsReady unit at) (taken nums (ran t other x ++ left_after others other bag)) → WasReady unit at nums others other (x ∷ bag) (ran t other x ++ left_after others other bag)
+    choice : (Covers nums (x.number + 1) (left_after others other None bag) → Each (IsReady unit at) (taken nums (left_after others other None bag)) → WasReady unit at nums others other bag (left_after others other None bag)) → (s t : Bool) → has_number nums x.number ≡ s → has_number others x.number ≡ t → Covers nums lo (ran t other x ++ left_after others other None bag) → Each (IsReady unit at) (taken nums (ran t other x ++ left_after others other None bag)) → WasReady unit at nums others other (x ∷ bag) (ran t other x ++ left_after others other None bag)
     choice ih true true e f c a =
-        let w = was_one unit at nums x.number x.unit end x.words (without_group other x.groups) (left_after others other bag) e (rises_left (x.number + 1) end others other bag rises.1) (c x.number e rises.0) a in
+        let w = was_one unit at nums x.number x.unit end x.words x.grid (without_group other x.groups) (left_after others other None bag) e (rises_left (x.number + 1) end others other bag rises.1) (c x.number e rises.0) a in
         let k = ih (tail true c) w.ready in
         let differs : same_group other at ≡ false = without_other at other x.groups (distinct.0 at) w.group_is in
         record {
-          records = w.records ∙ rw e (ap (λ (more : List Record). record_of x ∷ more) k.records);
+          records = w.records ∙ rw e (ap (λ (more : List Live). bare x ∷ more) k.records);
           ready = rw e (record { unit_is = w.unit_is; group_is = without_back at other x.groups w.group_is }, k.ready);
           apart = λ n g h there. differs;
         }
     choice ih true false e f c a =
-        let b = subst (λ (s : Bool). Each (IsReady unit at) (if s then x ∷ taken nums (left_after others other bag) else taken nums (left_after others other bag))) e a in
+        let b = subst (λ (s : Bool). Each (IsReady unit at) (if s then x ∷ taken nums (left_after others other None bag) else taken nums (left_after others other None bag))) e a in
         let k = ih (tail false c) b.1 in
         record {
-          records = rw e (ap (λ (more : List Record). record_of x ∷ more) k.records);
+          records = rw e (ap (λ (more : List Live). bare x ∷ more) k.records);
           ready = rw e (b.0, k.ready);
-          apart = λ n g h there. elim (among_ran other x (left_after others other bag) false n there) [
-            | inl q ↦ (let z : is_among others n ≡ false = subst (λ (m : ℕ). is_among others m ≡ false) q f in absurd (cc))
+          apart = λ n g h there. elim (among_ran other x (left_after others other None bag) false n there) [
+            | inl q ↦ (let z : has_number others n ≡ false = subst (λ (m : ℕ). has_number others m ≡ false) q f in absurd (cc))
             | inr m ↦ k.apart n g h m
           ];
         }
     choice ih false t e f c a =
         let k = ih (tail t c) (tail_ready t e a) in
         record {
-          records = ap (map record_of) (taken_append nums (ran t other x) (left_after others other bag) ∙ ap (λ (first : List Live). first ++ taken nums (left_after others other bag)) (taken_ran_not nums other x t e)) ∙ k.records ∙ rw e refl;
+          records = ap (map bare) (taken_append nums (ran t other x) (left_after others other None bag) ∙ ap (λ (first : List Live). first ++ taken nums (left_after others other None bag)) (taken_ran_not nums other x t e)) ∙ k.records ∙ rw e refl;
           ready = rw e k.ready;
-          apart = λ n g h there. elim (among_ran other x (left_after others other bag) t n there) [
-            | inl q ↦ (let z : is_among nums n ≡ false = subst (λ (m : ℕ). is_among nums m ≡ false) q e in absurd (cc))
+          apart = λ n g h there. elim (among_ran other x (left_after others other None bag) t n there) [
+            | inl q ↦ (let z : has_number nums n ≡ false = subst (λ (m : ℕ). has_number nums m ≡ false) q e in absurd (cc))
             | inr m ↦ k.apart n g h m
           ];
         }
 
-pub among_taken : (nums : List ℕ) (bag : List Live) (n : ℕ) → is_among (numbers (taken nums bag)) n ≡ true → is_among (numbers bag) n ≡ true
+pub among_taken : (nums : List ℕ) (bag : List Live) (n : ℕ) → has_number (numbers (taken nums bag)) n ≡ true → has_number (numbers bag) n ≡ true
 among_taken nums [] n e = e
-among_taken nums (x ∷ bag) n e = choice (λ f. among_taken nums bag n f) (is_among nums x.number) e
+among_taken nums (x ∷ bag) n e = choice (λ f. among_taken nums bag n f) (has_number nums x.number) e
   where
-    more : is_among (numbers bag) n ≡ true → is_among (numbers (x ∷ bag)) n ≡ true
-    more f = either (x.number == n) (is_among (numbers bag) n) f
+    more : has_number (numbers bag) n ≡ true → has_number (numbers (x ∷ bag)) n ≡ true
+    more f = either (x.number == n) (has_number (numbers bag) n) f
       where
         either : (a b : Bool) → b ≡ true → (a || b) ≡ true
         either true b f = refl
@@ -147,6 +146,6 @@ among_taken nums (x ∷ bag) n e = choice (λ f. among_taken nums bag n f) (is_a
     first true b c f e = refl
     first false b c f e = f e
 
-    choice : (is_among (numbers (taken nums bag)) n ≡ true → is_among (numbers bag) n ≡ true) → (b : Bool) → is_among (numbers (if b then x ∷ taken nums bag else taken nums bag)) n ≡ true → is_among (numbers (x ∷ bag)) n ≡ true
-    choice ih true e = first (x.number == n) (is_among (numbers (taken nums bag)) n) (is_among (numbers bag) n) ih e
+    choice : (has_number (numbers (taken nums bag)) n ≡ true → has_number (numbers bag) n ≡ true) → (b : Bool) → has_number (numbers (if b then x ∷ taken nums bag else taken nums bag)) n ≡ true → has_number (numbers (x ∷ bag)) n ≡ true
+    choice ih true e = first (x.number == n) (has_number (numbers (taken nums bag)) n) (has_number (numbers bag) n) ih e
     choice ih false e = more (ih e)

@@ -1,5 +1,5 @@
 -- A core that settles a launch stands for what it stood for.
-use Rattle.std.proofs.Common.{◌≡◌, ℕ, ◌+◌, ◌≤◌, Bool, true, false, cond, List, [], ◌∷◌, ◌++◌, length, refl, ap, sym, ◌∙◌, subst, arith, None, Some, Option}
+use Rattle.std.proofs.Common.{◌≡◌, ℕ, ◌+◌, ◌≤◌, Bool, true, false, cond, List, [], ◌∷◌, ◌++◌, length, map, refl, ap, sym, ◌∙◌, subst, arith, None, Some, Option}
 use Rattle.std.specs.Prelude.{filter, nat_le, IfSome, slice_index, count_by, ◌==◌, ◌&&◌, max}
 use Rattle.std.specs.List.{flat_map}
 use Rattle.std.proofs.lemmas.List.Sums.{sum_by_push, sum_by-cons}
@@ -12,22 +12,25 @@ use Rattle.wg_machine.specs.declared.launch.Sent.{Sent}
 use Rattle.wg_machine.specs.declared.shape.Shape.{Shape}
 use Rattle.wg_machine.specs.Buffers.{Buffers}
 use Rattle.wg_machine.specs.State.{State, kept, born, start as start_of}
-use Rattle.wg_machine.specs.LaunchMeaning.{Meaning, Outcome, Arrives}
-use Rattle.wg_machine.specs.Step.{Passed, Step, Allows, entry_of, is_among, numbers_of, taken}
+use Rattle.wg_machine.specs.LaunchMeaning.{Arrives, HasNewWords, Meaning, Outcome}
+use Rattle.wg_machine.specs.Units.{shared_at, words_at}
+use Rattle.wg_machine.specs.Step.{Allows, Passed, Step, entry_of, has_number, left_after, numbers_of, taken}
 use Rattle.wg_machine.specs.Run.{IsRun}
 use Rattle.wg_machine.specs.Bytes.{live_bytes, peak as peak_of}
 use Rattle.wg_machine.specs.Need.{need}
-use Rattle.wg_standing.specs.Outs.{numbers_out, after_one, unopened, AllAllowed, AllApart}
-use Rattle.wg_standing.specs.Standing.{Rises, EachDistinct, IsPlaced, StandsFor, TicketsDiffer, TicketsBelow, AllNamed, IsNotOut, reserved, by_unit, counts, in_slot, is_entry_record, IsSpent, EachKnown}
+use Rattle.wg_standing.specs.Outs.{AllAllowed, AllApart, IsAllowed, after_one, launch_now, unopened}
+use Rattle.wg_standing.specs.Standing.{Rises, EachDistinct, IsPlaced, StandsFor, TicketsDiffer, TicketsBelow, IsNotOut, reserved, by_unit, counts, in_slot, is_entry_record, IsSpent, EachHasWords, EachKnown}
 use Rattle.wg_standing.specs.Core.{CoreView}
-use Rattle.wg_standing.specs.Moves.{settled_of, freed, is_still, all_more, used_more, slot_bytes}
+use Rattle.wg_standing.specs.Moves.{all_more, freed, is_still, settled_of, slot_bytes, used_more, with_words}
 use Rattle.wg_words.specs.Each.{Each}
+use Rattle.wg_standing.proofs.Names.{named_of}
+use Rattle.wg_standing.proofs.Words.{allowed_worded, counts_worded, distinct_worded, full_worded, known_worded, left_worded, rises_worded, still_worded, words_worded, worded_by_unit, worded_those, worded_unopened}
 use Rattle.wg_standing.proofs.Slots.{slots_kept, states_more}
 use Rattle.wg_machine.specs.Bytes.{KeepsSlots}
 use Rattle.wg_standing.proofs.Commute.{unopened_settled, unopened_both, append_nil}
 use Rattle.wg_standing.proofs.Rising.{rises_left, rises_append, rises_kept, rises_born, numbers}
 use Rattle.wg_standing.proofs.Lists.{by_unit_append, those_append}
-use Rattle.wg_standing.proofs.Outs.{allowed_settled, all_without, one_of, apart_settled, unopened_new, distinct_left, distinct_append, numbers_taken}
+use Rattle.wg_standing.proofs.Outs.{allowed_settled, all_without, one_of, apart_settled, unopened_new, distinct_left, distinct_append}
 use Rattle.wg_standing.proofs.Counting.{count_left, count_gone, agrees, count_append, opposite, pay}
 use Rattle.wg_standing.proofs.Still.{still, known_left, known_append}
 use Rattle.wg_standing.proofs.Bytes.{used_are, counts_more, count_born, known_born, bytes_are, peak_more, full_append, full_left, full_born, words_append, words_left, words_born}
@@ -46,21 +49,17 @@ differ_without : (xs : List Pending) (o : Pending) (ys : List Pending) → Ticke
 differ_without [] o ys d = d.1
 differ_without (x ∷ xs) o ys d = (not_out_without x.ticket xs o ys d.0, differ_without xs o ys d.1)
 
-named_without : (xs : List Pending) (o : Pending) (ys : List Pending) → AllNamed (xs ++ o ∷ ys) → AllNamed (xs ++ ys)
-named_without [] o ys b = b.1
-named_without (x ∷ xs) o ys b = (b.0, named_without xs o ys b.1)
-
 below_without : (n : ℕ) (xs : List Pending) (o : Pending) (ys : List Pending) → TicketsBelow n (xs ++ o ∷ ys) → TicketsBelow n (xs ++ ys)
 below_without n [] o ys b = b.1
 below_without n (x ∷ xs) o ys b = (b.0, below_without n xs o ys b.1)
 
 -- what the rest may send, and what the one that settles may
-pub reserved_without : (shape : Shape) (v : ℕ) (xs : List Pending) (o : Pending) (ys : List Pending) → reserved shape (xs ++ o ∷ ys) v ≡ reserved shape (xs ++ ys) v + need shape o.launch.unit v
+pub reserved_without : (shape : Shape) (v : ℕ) (xs : List Pending) (o : Pending) (ys : List Pending) → reserved shape (xs ++ o ∷ ys) v ≡ reserved shape (xs ++ ys) v + need shape o.unit v
 reserved_without shape v [] o ys =
-    let c = sum_by-cons (λ (p : Pending). need shape p.launch.unit v) o ys in omega (arith, c)
+    let c = sum_by-cons (λ (p : Pending). need shape p.unit v) o ys in omega (arith, c)
 reserved_without shape v (x ∷ xs) o ys =
-    let c = sum_by-cons (λ (p : Pending). need shape p.launch.unit v) x (xs ++ ys) in
-    let d = sum_by-cons (λ (p : Pending). need shape p.launch.unit v) x (xs ++ o ∷ ys) in
+    let c = sum_by-cons (λ (p : Pending). need shape p.unit v) x (xs ++ ys) in
+    let d = sum_by-cons (λ (p : Pending). need shape p.unit v) x (xs ++ o ∷ ys) in
     let ih = reserved_without shape v xs o ys in omega (arith, c, d, ih)
 
 -- new records are no entries
@@ -91,17 +90,18 @@ guarded handed n a b h = choice (nat_le handed n) refl
     choice false e = refl
 
 -- the slots that a settling frees are those of the records that it takes out
-pub freed_are : (shape : Shape) (handed next w : ℕ) (bag : List Live) (o : Pending) (rest : List Pending) → Rises 0 bag next → EachKnown (length shape.units) bag → Allows shape bag o.launch o.at → AllAllowed shape (after_one o bag) rest → count_by (in_slot handed w) bag ≡ count_by (in_slot handed w) (after_one o bag) + pay (w == o.launch.unit) (count_by (λ n. nat_le handed n && opposite (is_still (by_unit handed 0 (length shape.units) (unopened rest (after_one o bag))) rest n)) (numbers_out o))
+pub freed_are : (shape : Shape) (handed next w : ℕ) (bag : List Live) (o : Pending) (rest : List Pending) → Rises 0 bag next → EachKnown (length shape.units) bag → IsAllowed shape bag o → AllAllowed shape (after_one o bag) rest → count_by (in_slot handed w) bag ≡ count_by (in_slot handed w) (after_one o bag) + pay (w == o.unit) (count_by (λ n. nat_le handed n && opposite (is_still (by_unit handed 0 (length shape.units) (unopened rest (after_one o bag))) rest n)) o.inputs)
 freed_are shape handed next w bag o rest rises known allowed all =
-    let nums = numbers_out o in
-    let f : ℕ → Bool = λ n. opposite (is_among (numbers (after_one o bag)) n) in
+    let nums = o.inputs in
+    let m = named_of shape bag o allowed in
+    let f : ℕ → Bool = λ n. opposite (has_number (numbers (after_one o bag)) n) in
     let waits = by_unit handed 0 (length shape.units) (unopened rest (after_one o bag)) in
     let a = count_left (λ u m. (u == w) && nat_le handed m) nums o.at bag in
-    let g = count_gone handed w o.launch.unit nums o.at f bag allowed.ready (agrees nums o.at f 0 next bag rises (λ n h. refl)) in
-    let names : nums ≡ numbers (taken nums bag) = ap numbers_of allowed.records ∙ numbers_taken (taken nums bag) in
-    let same = count_same (λ n. nat_le handed n && f n) (λ n. nat_le handed n && opposite (is_still waits rest n)) nums (λ n. guarded handed n (is_among (numbers (after_one o bag)) n) (is_still waits rest n) (λ h. sym (still shape handed n rest (after_one o bag) h (known_left (length shape.units) nums o.at bag known) all))) in
+    let g = count_gone handed w o.unit nums o.at f bag m.ready (agrees nums o.at f 0 next bag rises (λ n h. refl)) in
+    let names : nums ≡ numbers (taken nums bag) = sym m.named in
+    let same = count_same (λ n. nat_le handed n && f n) (λ n. nat_le handed n && opposite (is_still waits rest n)) nums (λ n. guarded handed n (has_number (numbers (after_one o bag)) n) (is_still waits rest n) (λ h. sym (still shape handed n rest (after_one o bag) h (known_left (length shape.units) nums o.at bag known) all))) in
     let named = ap (λ (ns : List ℕ). count_by (λ n. nat_le handed n && f n) ns) names in
-    let paid = ap (pay (w == o.launch.unit)) (sym named ∙ same) in
+    let paid = ap (pay (w == o.unit)) (sym named ∙ same) in
     omega (arith, a, g, paid)
 
 -- what a launch sends is within its needs, to units of the shape
@@ -109,17 +109,20 @@ pub record KeepsNeeds (shape : Shape) (unit : ℕ) (sent : List Sent) : Type 0 w
   pub arrive : Each (Arrives shape) sent
   pub few : (v : ℕ) → count_by (λ (s : Sent). s.unit == v) sent ≤ need shape unit v
 
-pub settled_placed : (core : CoreView) (bag : List Live) (before : List Pending) (o : Pending) (later : List Pending) (outcome : Outcome) → core.outs ≡ before ++ o ∷ later → KeepsNeeds core.shape o.launch.unit outcome.sent → EachDistinct (flat_map kept (born core.shape core.next outcome.sent)) → IsPlaced core bag → IsPlaced (settled_of core before o later outcome) (after_one o bag ++ flat_map kept (born core.shape core.next outcome.sent))
-settled_placed core bag before o later outcome was_out needs newly s =
+-- a core with these lists, journal and launches out
+abbrev stepped : CoreView → List Entry → List Live → List (List Live) → List ℕ → List Pending → ℕ → CoreView
+stepped core journal bag waits used outs next = record core { journal = journal; next = next; bag = bag; waits = waits; used = used; outs = outs }
+
+-- the records after the group of a launch out has run, with no new words
+step_placed : (core : CoreView) (bag : List Live) (before : List Pending) (o : Pending) (later : List Pending) (sent : List Sent) (entry : Entry) → core.outs ≡ before ++ o ∷ later → KeepsNeeds core.shape o.unit sent → EachDistinct (flat_map kept (born core.shape core.next sent)) → IsPlaced core bag → (let fresh = flat_map kept (born core.shape core.next sent) in IsPlaced (stepped core (core.journal ++ entry ∷ []) (after_one o bag ++ fresh) (all_more core.handed 0 fresh core.waits) (used_more core.handed 0 o.unit (freed core o (before ++ later)) fresh core.used) (before ++ later) (core.next + length sent)) (after_one o bag ++ fresh))
+step_placed core bag before o later sent entry was_out needs newly s =
     let shape = core.shape in
     let n = length shape.units in
     let rest = before ++ later in
-    let nums = numbers_out o in
-    let sent = outcome.sent in
+    let nums = o.inputs in
     let fresh = flat_map kept (born shape core.next sent) in
     let end = core.next + length sent in
     let less = after_one o bag in
-    let entry = entry_of o.launch o.at core.next outcome in
     let all = subst (AllAllowed shape bag) was_out s.allowed in
     let others = all_without shape bag before o later all in
     let mine = one_of shape bag before o later all in
@@ -134,15 +137,14 @@ settled_placed core bag before o later outcome was_out needs newly s =
     let waits : core.waits ≡ by_unit core.handed 0 n (unopened rest less) = s.waits ∙ ap (by_unit core.handed 0 n) ready in
     let gone = freed core o rest in
     let gone_is : gone ≡ count_by (λ k. nat_le core.handed k && opposite (is_still (by_unit core.handed 0 n (unopened rest less)) rest k)) nums = ap (λ (ws : List (List Live)). count_by (λ k. nat_le core.handed k && opposite (is_still ws rest k)) nums) waits in
-    let frees : (w : ℕ) → count_by (in_slot core.handed w) bag ≡ count_by (in_slot core.handed w) less + pay (w == o.launch.unit) gone = λ w. freed_are shape core.handed core.next w bag o rest rises s.known mine alone ∙ ap (λ (k : ℕ). count_by (in_slot core.handed w) less + pay (w == o.launch.unit) k) (sym gone_is) in
-    let used : used_more core.handed 0 o.launch.unit gone fresh core.used ≡ counts core.handed 0 n (less ++ fresh) = ap (used_more core.handed 0 o.launch.unit gone fresh) s.used ∙ used_are core.handed 0 n o.launch.unit gone bag less fresh frees in
-    let grows : (w : ℕ) → count_by (in_slot core.handed w) (less ++ fresh) ≤ count_by (in_slot core.handed w) bag + need shape o.launch.unit w = λ w. (let a = frees w in let b = count_append (in_slot core.handed w) less fresh in let c = count_born shape core.handed w core.next sent in let d = needs.few w in omega (arith, a, b, c, d)) in
+    let frees : (w : ℕ) → count_by (in_slot core.handed w) bag ≡ count_by (in_slot core.handed w) less + pay (w == o.unit) gone = λ w. freed_are shape core.handed core.next w bag o rest rises s.known mine alone ∙ ap (λ (k : ℕ). count_by (in_slot core.handed w) less + pay (w == o.unit) k) (sym gone_is) in
+    let used : used_more core.handed 0 o.unit gone fresh core.used ≡ counts core.handed 0 n (less ++ fresh) = ap (used_more core.handed 0 o.unit gone fresh) s.used ∙ used_are core.handed 0 n o.unit gone bag less fresh frees in
+    let grows : (w : ℕ) → count_by (in_slot core.handed w) (less ++ fresh) ≤ count_by (in_slot core.handed w) bag + need shape o.unit w = λ w. (let a = frees w in let b = count_append (in_slot core.handed w) less fresh in let c = count_born shape core.handed w core.next sent in let d = needs.few w in omega (arith, a, b, c, d)) in
     let longer = length_push core.journal entry in
     let fewer = length_without before o later in
     let outs = ap (λ (os : List Pending). length os) was_out in
     record {
       launches = let l = s.launches in omega (arith, longer, fewer, outs, l);
-      inputs = named_without before o later (subst AllNamed was_out s.inputs);
       waits = ap (all_more core.handed 0 fresh) waits ∙ by_unit_append core.handed 0 n (unopened rest less) fresh ∙ ap (by_unit core.handed 0 n) (sym more);
       entries = s.entries ∙ ap (filter (is_entry_record core.handed)) ready ∙ sym (ap (filter (is_entry_record core.handed)) more ∙ those_append (λ u m. nat_le (m + 1) core.handed) (unopened rest less) fresh ∙ ap (λ (b : List Live). filter (is_entry_record core.handed) (unopened rest less) ++ b) (no_entries core.handed core.next end fresh s.handed rise) ∙ append_nil (filter (is_entry_record core.handed) (unopened rest less)));
       allowed = stay;
@@ -158,9 +160,9 @@ settled_placed core bag before o later outcome was_out needs newly s =
       words = words_append shape less fresh (words_left shape nums o.at bag s.words) (words_born shape core.next sent needs.arrive);
       used = used;
       room = λ v. (
-          let a = counts_more core.handed 0 n v (need shape o.launch.unit) bag (less ++ fresh) grows in
+          let a = counts_more core.handed 0 n v (need shape o.unit) bag (less ++ fresh) grows in
           let z : 0 + v ≡ v = omega arith in
-          let a' = subst (λ (k : ℕ). slice_index (counts core.handed 0 n (less ++ fresh)) v ≤ slice_index (counts core.handed 0 n bag) v + need shape o.launch.unit k) z a in
+          let a' = subst (λ (k : ℕ). slice_index (counts core.handed 0 n (less ++ fresh)) v ≤ slice_index (counts core.handed 0 n bag) v + need shape o.unit k) z a in
           let b = ap (λ (us : List ℕ). slice_index us v) used in
           let c = ap (λ (us : List ℕ). slice_index us v) s.used in
           let d = s.room v in
@@ -170,29 +172,95 @@ settled_placed core bag before o later outcome was_out needs newly s =
           );
     }
 
-pub settled_stands : (made : Meaning) (script : List Sent) (start : Buffers) (core : CoreView) (before : List Pending) (o : Pending) (later : List Pending) (outcome : Outcome) → core.stopped ≡ None → core.outs ≡ before ++ o ∷ later → made o.launch core.buffers core.limits.turns ≡ Some outcome → KeepsNeeds core.shape o.launch.unit outcome.sent → EachDistinct (flat_map kept (born core.shape core.next outcome.sent)) → StandsFor made script start core → StandsFor made script start (settled_of core before o later outcome)
-settled_stands made script start core before o later outcome running was_out runs needs newly s =
+-- the records of a core, where those that a launch out takes have new words
+reworded_placed : (core : CoreView) (bag : List Live) (nums : List ℕ) (new : Option (List ℕ)) → EachHasWords core.shape (with_words nums new bag) → IsPlaced core bag → (let ready : CoreView = record core { waits = map (with_words nums new) core.waits; entries = with_words nums new core.entries } in IsPlaced ready (with_words nums new bag))
+reworded_placed core bag nums new words s =
+    let n = length core.shape.units in
+    let ready = worded_unopened nums new core.outs bag in
+    record {
+      waits = ap (map (with_words nums new)) s.waits ∙ sym (worded_by_unit core.handed 0 n nums new (unopened core.outs bag)) ∙ ap (by_unit core.handed 0 n) (sym ready);
+      entries = ap (with_words nums new) s.entries ∙ sym (worded_those (λ u m. nat_le (m + 1) core.handed) nums new (unopened core.outs bag)) ∙ ap (filter (is_entry_record core.handed)) (sym ready);
+      allowed = allowed_worded core.shape nums new bag core.outs s.allowed;
+      apart = s.apart;
+      tickets_differ = s.tickets_differ;
+      tickets_below = s.tickets_below;
+      tickets = s.tickets;
+      launches = s.launches;
+      rises = rises_worded 0 core.next nums new bag s.rises;
+      handed = s.handed;
+      distinct = distinct_worded nums new bag s.distinct;
+      full = full_worded core.shape nums new bag s.full;
+      known = known_worded n nums new bag s.known;
+      words = words;
+      used = s.used ∙ sym (counts_worded core.handed 0 n nums new bag);
+      room = s.room;
+    }
+
+pub settled_placed : (core : CoreView) (before : List Pending) (o : Pending) (later : List Pending) (outcome : Outcome) → core.outs ≡ before ++ o ∷ later → KeepsNeeds core.shape o.unit outcome.sent → HasNewWords (shared_at core.shape o.unit) (words_at core.shape o.unit) outcome.shared → EachDistinct (flat_map kept (born core.shape core.next outcome.sent)) → IsPlaced core core.bag → IsPlaced (settled_of core before o later outcome) (settled_of core before o later outcome).bag
+settled_placed core before o later outcome was_out needs new newly s =
+    let bag = core.bag in
+    let rest = before ++ later in
+    let fresh = flat_map kept (born core.shape core.next outcome.sent) in
+    let entry = entry_of (launch_now core.shape bag o) o.at core.next outcome in
+    let mine = named_of core.shape bag o (one_of core.shape bag before o later (subst (AllAllowed core.shape bag) was_out s.allowed)) in
+    let words = words_worded core.shape (shared_at core.shape o.unit) o.unit o.at o.inputs outcome.shared bag new mine.ready s.words in
+    let ready : CoreView = record core { waits = map (with_words o.inputs outcome.shared) core.waits; entries = with_words o.inputs outcome.shared core.entries } in
+    let placed = step_placed ready (with_words o.inputs outcome.shared bag) before o later outcome.sent entry was_out needs newly (reworded_placed core bag o.inputs outcome.shared words s) in
+    let gone : freed ready o rest ≡ freed core o rest = count_same (λ n. nat_le core.handed n && opposite (is_still ready.waits rest n)) (λ n. nat_le core.handed n && opposite (is_still core.waits rest n)) o.inputs (λ n. ap (λ (b : Bool). nat_le core.handed n && opposite b) (still_worded o.inputs outcome.shared core.waits rest n)) in
+    let less = left_worded o.inputs o.at outcome.shared bag in
+    let waits = all_more core.handed 0 fresh ready.waits in
+    let end = core.next + length outcome.sent in
+    let journal = core.journal ++ entry ∷ [] in
+    let p : IsPlaced (stepped ready journal (left_after o.inputs o.at outcome.shared bag ++ fresh) waits (used_more core.handed 0 o.unit (freed core o rest) fresh core.used) rest end) (left_after o.inputs o.at outcome.shared bag ++ fresh) =
+    subst (λ (k : ℕ). IsPlaced (stepped ready journal (left_after o.inputs o.at outcome.shared bag ++ fresh) waits (used_more core.handed 0 o.unit k fresh core.used) rest end) (left_after o.inputs o.at outcome.shared bag ++ fresh)) gone
+    (subst (λ (b : List Live). IsPlaced (stepped ready journal (b ++ fresh) waits (used_more core.handed 0 o.unit (freed ready o rest) fresh core.used) rest end) (b ++ fresh)) less placed) in
+    record {
+      waits = p.waits;
+      entries = p.entries;
+      allowed = p.allowed;
+      apart = p.apart;
+      tickets_differ = p.tickets_differ;
+      tickets_below = p.tickets_below;
+      tickets = p.tickets;
+      launches = p.launches;
+      rises = p.rises;
+      handed = p.handed;
+      distinct = p.distinct;
+      full = p.full;
+      known = p.known;
+      words = p.words;
+      used = p.used;
+      room = p.room;
+    }
+
+pub settled_stands : (made : Meaning) (script : List Sent) (start : Buffers) (core : CoreView) (before : List Pending) (o : Pending) (later : List Pending) (outcome : Outcome) → core.stopped ≡ None → core.outs ≡ before ++ o ∷ later → made (launch_now core.shape core.bag o) core.buffers core.limits.turns ≡ Some outcome → KeepsNeeds core.shape o.unit outcome.sent → HasNewWords (shared_at core.shape o.unit) (words_at core.shape o.unit) outcome.shared → EachDistinct (flat_map kept (born core.shape core.next outcome.sent)) → StandsFor made script start core → StandsFor made script start (settled_of core before o later outcome)
+settled_stands made script start core before o later outcome running was_out runs needs new newly s =
     let shape = core.shape in
-    let n = length shape.units in
     let sent = outcome.sent in
-    let p = settled_placed core s.state.bag before o later outcome was_out needs newly s.placed in
-    let less = after_one o s.state.bag in
+    let launch = launch_now shape core.bag o in
+    let p = settled_placed core before o later outcome was_out needs new newly s.placed in
     let fresh = flat_map kept (born shape core.next sent) in
+    let less = left_after o.inputs o.at outcome.shared core.bag in
     let after : State = record { bag = less ++ fresh; next = core.next + length sent; buffers = outcome.buffers } in
-    let passed : Passed = record { launch = o.launch; outcome = outcome; after = after } in
-    let entry = entry_of o.launch o.at core.next outcome in
-    let used = used_more core.handed 0 o.launch.unit (freed core o (before ++ later)) fresh core.used in
+    let passed : Passed = record { launch = launch; outcome = outcome; after = after } in
+    let entry = entry_of launch o.at core.next outcome in
+    let mine = one_of shape core.bag before o later (subst (AllAllowed shape core.bag) was_out s.placed.allowed) in
+    let used = used_more core.handed 0 o.unit (freed core o (before ++ later)) fresh core.used in
     let bytes : live_bytes shape core.handed after ≡ slot_bytes shape 0 used = bytes_are shape core.handed after p.known ∙ ap (slot_bytes shape 0) (sym p.used) in
     record {
       state = after;
       trail = s.trail ++ passed ∷ [];
       run = run_more shape made core.limits.turns (start_of shape script start) core.journal s.trail s.state entry passed s.run (record {
-        allowed = one_of shape s.state.bag before o later (subst (AllAllowed shape s.state.bag) was_out s.placed.allowed);
-        runs = subst (λ (b : Buffers). made o.launch b core.limits.turns ≡ Some outcome) s.buffers runs;
-        names = ap (λ (k : ℕ). entry_of o.launch o.at k outcome) s.next;
-        becomes = ap (λ (k : ℕ). (let t : State = record { bag = less ++ flat_map kept (born shape k sent); next = k + length sent; buffers = outcome.buffers } in t)) s.next;
+        allowed = subst (λ (b : List Live). Allows shape b launch o.at) s.bag mine.allowed;
+        runs = subst (λ (b : Buffers). made launch b core.limits.turns ≡ Some outcome) s.buffers runs;
+        names = ap (λ (k : ℕ). entry_of launch o.at k outcome) s.next;
+        becomes =
+            ap (λ (ns : List ℕ). (let t : State = record { bag = left_after ns o.at outcome.shared core.bag ++ fresh; next = core.next + length sent; buffers = outcome.buffers } in t)) (sym mine.named)
+            ∙ ap (λ (b : List Live). (let t : State = record { bag = left_after (numbers_of launch.records) o.at outcome.shared b ++ fresh; next = core.next + length sent; buffers = outcome.buffers } in t)) s.bag
+            ∙ ap (λ (k : ℕ). (let t : State = record { bag = left_after (numbers_of launch.records) o.at outcome.shared s.state.bag ++ flat_map kept (born shape k sent); next = k + length sent; buffers = outcome.buffers } in t)) s.next;
       });
       handed = s.handed;
+      bag = refl;
       placed = p;
       next = refl;
       buffers = refl;

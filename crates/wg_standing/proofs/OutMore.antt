@@ -8,11 +8,11 @@ use Rattle.wg_machine.specs.declared.launch.Live.{Live}
 use Rattle.wg_machine.specs.declared.launch.Sent.{Sent}
 use Rattle.wg_machine.specs.Buffers.{Buffers}
 use Rattle.wg_machine.specs.LaunchMeaning.{Meaning}
-use Rattle.wg_machine.specs.Step.{Allows, left_after}
+use Rattle.wg_machine.specs.Step.{left_after}
 use Rattle.wg_machine.specs.Need.{need}
-use Rattle.wg_standing.specs.Outs.{numbers_out, unopened}
+use Rattle.wg_standing.specs.Outs.{IsAllowed, unopened}
 use Rattle.wg_standing.specs.Core.{CoreView}
-use Rattle.wg_standing.specs.Standing.{IsPlaced, StandsFor, TicketsDiffer, TicketsBelow, AllNamed, IsNotOut, by_unit, is_entry_record, IsSpent}
+use Rattle.wg_standing.specs.Standing.{IsPlaced, StandsFor, TicketsDiffer, TicketsBelow, IsNotOut, by_unit, is_entry_record, IsSpent}
 use Rattle.wg_standing.specs.Moves.{with_out}
 use Rattle.wg_standing.specs.Choice.{UnitHasRoom}
 use Rattle.wg_standing.proofs.Commute.{unopened_append}
@@ -34,21 +34,16 @@ differ_more n (q ∷ outs) o b e d = (
   differ_more n outs o b.1 e d.1,
 )
 
-named_more : (outs : List Pending) (o : Pending) → AllNamed outs → o.inputs ≡ numbers_out o → AllNamed (outs ++ o ∷ [])
-named_more [] o a e = (e, tt)
-named_more (p ∷ outs) o a e = (a.0, named_more outs o a.1 e)
-
-pub opened_placed : (core : CoreView) (bag : List Live) (o : Pending) → o.ticket ≡ core.tickets → length core.journal + length core.outs < core.limits.launches → UnitHasRoom core o.launch.unit → o.inputs ≡ numbers_out o → IsPlaced core bag → Allows core.shape (unopened core.outs bag) o.launch o.at → IsPlaced (with_out core o) bag
-opened_placed core bag o ticket few room named s allowed =
+pub opened_placed : (core : CoreView) (bag : List Live) (o : Pending) → o.ticket ≡ core.tickets → length core.journal + length core.outs < core.limits.launches → UnitHasRoom core o.unit → IsPlaced core bag → IsAllowed core.shape (unopened core.outs bag) o → IsPlaced (with_out core o) bag
+opened_placed core bag o ticket few room s allowed =
     let j = joins core.shape core.next core.outs bag o s.rises s.distinct allowed in
     let n = length core.shape.units in
-    let ready : unopened (core.outs ++ o ∷ []) bag ≡ left_after (numbers_out o) o.at (unopened core.outs bag) = unopened_append core.outs (o ∷ []) bag in
+    let ready : unopened (core.outs ++ o ∷ []) bag ≡ left_after o.inputs o.at None (unopened core.outs bag) = unopened_append core.outs (o ∷ []) bag in
     let longer = length_push core.outs o in
     record {
       launches = omega (arith, longer, few);
-      inputs = named_more core.outs o s.inputs named;
-      waits = ap (map (left_after (numbers_out o) o.at)) s.waits ∙ by_unit_left core.handed 0 n (numbers_out o) o.at (unopened core.outs bag) ∙ ap (by_unit core.handed 0 n) (sym ready);
-      entries = ap (left_after (numbers_out o) o.at) s.entries ∙ those_left (λ u m. nat_le (m + 1) core.handed) (numbers_out o) o.at (unopened core.outs bag) ∙ ap (filter (is_entry_record core.handed)) (sym ready);
+      waits = ap (map (left_after o.inputs o.at None)) s.waits ∙ by_unit_left core.handed 0 n o.inputs o.at (unopened core.outs bag) ∙ ap (by_unit core.handed 0 n) (sym ready);
+      entries = ap (left_after o.inputs o.at None) s.entries ∙ those_left (λ u m. nat_le (m + 1) core.handed) o.inputs o.at (unopened core.outs bag) ∙ ap (filter (is_entry_record core.handed)) (sym ready);
       allowed = allowed_more core.shape bag core.outs o s.allowed j.allowed;
       apart = j.apart s.apart;
       tickets_differ = differ_more core.tickets core.outs o s.tickets_below ticket s.tickets_differ;
@@ -61,17 +56,18 @@ opened_placed core bag o ticket few room named s allowed =
       known = s.known;
       words = s.words;
       used = s.used;
-      room = λ v. let r = room v in let e = sum_by_push (λ (p : Pending). need core.shape p.launch.unit v) core.outs o in omega (arith, r, e);
+      room = λ v. let r = room v in let e = sum_by_push (λ (p : Pending). need core.shape p.unit v) core.outs o in omega (arith, r, e);
     }
 
-pub opened_stands : (made : Meaning) (script : List Sent) (start : Buffers) (core : CoreView) (o : Pending) → core.stopped ≡ None → o.ticket ≡ core.tickets → length core.journal + length core.outs < core.limits.launches → UnitHasRoom core o.launch.unit → o.inputs ≡ numbers_out o → (s : StandsFor made script start core) → Allows core.shape (unopened core.outs s.state.bag) o.launch o.at → StandsFor made script start (with_out core o)
-opened_stands made script start core o running ticket few room named s allowed =
+pub opened_stands : (made : Meaning) (script : List Sent) (start : Buffers) (core : CoreView) (o : Pending) → core.stopped ≡ None → o.ticket ≡ core.tickets → length core.journal + length core.outs < core.limits.launches → UnitHasRoom core o.unit → (s : StandsFor made script start core) → IsAllowed core.shape (unopened core.outs core.bag) o → StandsFor made script start (with_out core o)
+opened_stands made script start core o running ticket few room s allowed =
     record {
       state = s.state;
       trail = s.trail;
       run = s.run;
       handed = s.handed;
-      placed = opened_placed core s.state.bag o ticket few room named s.placed allowed;
+      bag = s.bag;
+      placed = opened_placed core core.bag o ticket few room s.placed allowed;
       next = s.next;
       buffers = s.buffers;
       denied = s.denied;

@@ -1,7 +1,6 @@
 -- What a core stands for, as it opens, settles and stops, and where it is idle.
 use Rattle.std.proofs.Common.{◌≡◌, ℕ, zero, suc, ◌+◌, ◌<◌, List, [], ◌∷◌, ◌++◌, length, refl, ap, sym, ◌∙◌, subst, arith, None, Some, unwrap_or}
 use Rattle.std.specs.Prelude.{Contains, slice_get, filter}
-use Rattle.std.specs.List.{flat_map}
 use Rattle.wg_words.specs.Each.{Each}
 use Rattle.wg_machine.specs.declared.launch.Live.{Live}
 use Rattle.wg_machine.specs.declared.launch.Record.{Record}
@@ -10,14 +9,14 @@ use Rattle.wg_machine.specs.Buffers.{Buffers}
 use Rattle.wg_machine.specs.Bytes.{live_bytes}
 use Rattle.wg_machine.specs.GoodShape.{IsGoodShape}
 use Rattle.wg_machine.specs.LaunchMeaning.{KeepsLaws, Meaning, Outcome}
-use Rattle.wg_machine.specs.State.{State, born, kept}
+use Rattle.wg_machine.specs.State.{State}
 use Rattle.wg_standing.specs.declared.pending.Pending.{Pending}
 use Rattle.wg_standing.specs.Choice.{IsChoice}
 use Rattle.wg_standing.specs.Core.{CoreView}
 use Rattle.wg_standing.specs.Idle.{IsIdle}
 use Rattle.wg_standing.specs.Moves.{settled_of, slot_bytes, with_out}
-use Rattle.wg_standing.specs.Outs.{AllAllowed, after_one, unopened}
-use Rattle.wg_standing.specs.Standing.{IsPlaced, StandsFor, by_unit, is_entry_record}
+use Rattle.wg_standing.specs.Outs.{AllAllowed, launch_now, unopened}
+use Rattle.wg_standing.specs.Standing.{EachKnown, IsPlaced, StandsFor, by_unit, counts, is_entry_record}
 use Rattle.wg_standing.proofs.Blocks.{idle_empty}
 use Rattle.wg_standing.proofs.Bytes.{bytes_are}
 use Rattle.wg_standing.proofs.Chosen.{choice_fine}
@@ -27,40 +26,41 @@ use Rattle.wg_standing.proofs.OutLess.{settled_placed, settled_stands}
 use Rattle.wg_standing.proofs.OutMore.{opened_placed, opened_stands}
 use Rattle.wg_standing.proofs.Settling.{NeedsAreKept, keeps_needs}
 
-pub opening_places : (core : CoreView) (bag : List Live) (o : Pending) → IsGoodShape core.shape → length core.journal + length core.outs < core.limits.launches → IsPlaced core bag → IsChoice core o → IsPlaced (with_out core o) bag
-opening_places core bag o good few p choice =
-    let f = choice_fine core bag o good p choice in
-    opened_placed core bag o f.ticket few f.room f.inputs p f.allowed
+pub opening_places : (core : CoreView) (o : Pending) → IsGoodShape core.shape → length core.journal + length core.outs < core.limits.launches → IsPlaced core core.bag → IsChoice core o → IsPlaced (with_out core o) core.bag
+opening_places core o good few p choice =
+    let f = choice_fine core o good p choice in
+    opened_placed core core.bag o f.ticket few f.room p f.allowed
 
 pub opening_stands : (made : Meaning) (script : List Sent) (start : Buffers) (core : CoreView) (o : Pending) → IsGoodShape core.shape → core.stopped ≡ None → length core.journal + length core.outs < core.limits.launches → StandsFor made script start core → IsChoice core o → StandsFor made script start (with_out core o)
 opening_stands made script start core o good running few s choice =
-    let f = choice_fine core s.state.bag o good s.placed choice in
-    opened_stands made script start core o running f.ticket few f.room f.inputs s f.allowed
+    let f = choice_fine core o good s.placed choice in
+    opened_stands made script start core o running f.ticket few f.room s f.allowed
 
-pub settling_places : NeedsAreKept → (core : CoreView) (bag : List Live) (before : List Pending) (o : Pending) (later : List Pending) (outcome : Outcome) → IsGoodShape core.shape → core.outs ≡ before ++ o ∷ later → KeepsLaws core.shape o.launch core.buffers core.limits.turns outcome → IsPlaced core bag → IsPlaced (settled_of core before o later outcome) (after_one o bag ++ flat_map kept (born core.shape core.next outcome.sent))
-settling_places law core bag before o later outcome good was_out laws p =
-    let fits = out_fits core bag before o later good was_out p in
-    let few = keeps_needs law core.shape o.launch core.buffers core.limits.turns outcome fits laws in
-    settled_placed core bag before o later outcome was_out few (distinct_born core.shape core.next outcome.sent) p
+pub settling_places : NeedsAreKept → (core : CoreView) (before : List Pending) (o : Pending) (later : List Pending) (outcome : Outcome) → IsGoodShape core.shape → core.outs ≡ before ++ o ∷ later → KeepsLaws core.shape (launch_now core.shape core.bag o) core.buffers core.limits.turns outcome → IsPlaced core core.bag → IsPlaced (settled_of core before o later outcome) (settled_of core before o later outcome).bag
+settling_places law core before o later outcome good was_out laws p =
+    let fits = out_fits core before o later good was_out p in
+    let few = keeps_needs law core.shape (launch_now core.shape core.bag o) core.buffers core.limits.turns outcome fits laws in
+    settled_placed core before o later outcome was_out few laws.shared (distinct_born core.shape core.next outcome.sent) p
 
-pub settling_stands : NeedsAreKept → (made : Meaning) (script : List Sent) (start : Buffers) (core : CoreView) (before : List Pending) (o : Pending) (later : List Pending) (outcome : Outcome) → IsGoodShape core.shape → core.stopped ≡ None → core.outs ≡ before ++ o ∷ later → made o.launch core.buffers core.limits.turns ≡ Some outcome → KeepsLaws core.shape o.launch core.buffers core.limits.turns outcome → StandsFor made script start core → StandsFor made script start (settled_of core before o later outcome)
+pub settling_stands : NeedsAreKept → (made : Meaning) (script : List Sent) (start : Buffers) (core : CoreView) (before : List Pending) (o : Pending) (later : List Pending) (outcome : Outcome) → IsGoodShape core.shape → core.stopped ≡ None → core.outs ≡ before ++ o ∷ later → made (launch_now core.shape core.bag o) core.buffers core.limits.turns ≡ Some outcome → KeepsLaws core.shape (launch_now core.shape core.bag o) core.buffers core.limits.turns outcome → StandsFor made script start core → StandsFor made script start (settled_of core before o later outcome)
 settling_stands law made script start core before o later outcome good running was_out runs laws h =
-    let fits = out_fits core h.state.bag before o later good was_out h.placed in
-    let few = keeps_needs law core.shape o.launch core.buffers core.limits.turns outcome fits laws in
-    settled_stands made script start core before o later outcome running was_out runs few (distinct_born core.shape core.next outcome.sent) h
+    let fits = out_fits core before o later good was_out h.placed in
+    let few = keeps_needs law core.shape (launch_now core.shape core.bag o) core.buffers core.limits.turns outcome fits laws in
+    settled_stands made script start core before o later outcome running was_out runs few laws.shared (distinct_born core.shape core.next outcome.sent) h
 
 middle : (xs : List Pending) (o : Pending) (ys : List Pending) → Contains (xs ++ o ∷ ys) o
 middle [] o ys = (0, omega arith, refl)
 middle (x ∷ xs) o ys = let k = middle xs o ys in (suc k.0, let h = k.1 in omega arith, k.2)
 
-pub stopping_stands : (made : Meaning) (script : List Sent) (start : Buffers) (core : CoreView) (before : List Pending) (o : Pending) (later : List Pending) → core.outs ≡ before ++ o ∷ later → made o.launch core.buffers core.limits.turns ≡ None → StandsFor made script start core → StandsFor made script start (record core { stopped = Some o.ticket })
+pub stopping_stands : (made : Meaning) (script : List Sent) (start : Buffers) (core : CoreView) (before : List Pending) (o : Pending) (later : List Pending) → core.outs ≡ before ++ o ∷ later → made (launch_now core.shape core.bag o) core.buffers core.limits.turns ≡ None → StandsFor made script start core → StandsFor made script start (record core { stopped = Some o.ticket })
 stopping_stands made script start core before o later was_out spends h =
     record {
       state = h.state;
       trail = h.trail;
       run = h.run;
       handed = h.handed;
-      placed = record { waits = h.placed.waits; entries = h.placed.entries; allowed = h.placed.allowed; apart = h.placed.apart; tickets_differ = h.placed.tickets_differ; tickets_below = h.placed.tickets_below; tickets = h.placed.tickets; launches = h.placed.launches; inputs = h.placed.inputs; rises = h.placed.rises; handed = h.placed.handed; distinct = h.placed.distinct; full = h.placed.full; known = h.placed.known; words = h.placed.words; used = h.placed.used; room = h.placed.room };
+      bag = h.bag;
+      placed = record { waits = h.placed.waits; entries = h.placed.entries; allowed = h.placed.allowed; apart = h.placed.apart; tickets_differ = h.placed.tickets_differ; tickets_below = h.placed.tickets_below; tickets = h.placed.tickets; launches = h.placed.launches; rises = h.placed.rises; handed = h.placed.handed; distinct = h.placed.distinct; full = h.placed.full; known = h.placed.known; words = h.placed.words; used = h.placed.used; room = h.placed.room };
       next = h.next;
       buffers = h.buffers;
       denied = h.denied;
@@ -86,8 +86,8 @@ none_out : (core : CoreView) (outs : List Pending) → AllAllowed core.shape [] 
 none_out core [] all = refl
 none_out core (o ∷ outs) all =
     let a = all.0 in
-    let z = ap (λ (rs : List Record). length rs) a.records in
-    let some = a.some in
+    let z = ap (λ (rs : List Record). length rs) a.allowed.records in
+    let some = a.allowed.some in
     absurd (omega (arith, z, some))
 
 pub complete_idle : (core : CoreView) (bag : List Live) → IsPlaced core bag → bag ≡ [] → IsIdle core
@@ -100,5 +100,7 @@ complete_idle core bag p empty =
       outs = none;
     }
 
-pub bytes_of_slots : (core : CoreView) (s : State) → IsPlaced core s.bag → live_bytes core.shape core.handed s ≡ slot_bytes core.shape 0 core.used
-bytes_of_slots core s p = bytes_are core.shape core.handed s p.known ∙ ap (slot_bytes core.shape 0) (sym p.used)
+pub bytes_of_slots : (core : CoreView) (s : State) → core.bag ≡ s.bag → IsPlaced core core.bag → live_bytes core.shape core.handed s ≡ slot_bytes core.shape 0 core.used
+bytes_of_slots core s same p =
+    bytes_are core.shape core.handed s (subst (EachKnown (length core.shape.units)) same p.known)
+    ∙ ap (slot_bytes core.shape 0) (ap (counts core.handed 0 (length core.shape.units)) (sym same) ∙ sym p.used)

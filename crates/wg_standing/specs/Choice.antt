@@ -1,15 +1,13 @@
 -- The launch to open next: of the deepest waiting unit that has room, then of the next entry. This project's own.
-use Rattle.std.specs.Prelude.{◌≡◌, ◌⊎◌, ℕ, ◌<◌, ◌≤◌, ◌==◌, List, [], ◌∷◌, length, map, take, take_while, slice_get, slice_index, unwrap_or, false}
+use Rattle.std.specs.Prelude.{◌≡◌, ◌⊎◌, ℕ, ◌<◌, ◌≤◌, ◌==◌, List, [], ◌∷◌, length, map, take, take_while, slice_get, slice_index, unwrap_or}
 use Rattle.wg_machine.specs.declared.shape.Shape.{Shape}
-use Rattle.wg_machine.specs.declared.launch.Launch.{Launch}
 use Rattle.wg_machine.specs.declared.launch.Live.{Live}
 use Rattle.wg_machine.specs.Choice.{HasRoom}
-use Rattle.wg_machine.specs.Grids.{grid_of, place_of}
-use Rattle.wg_machine.specs.Step.{Allows, numbers_of, record_of}
+use Rattle.wg_machine.specs.Step.{numbers_of, record_of}
 use Rattle.wg_machine.specs.Units.{kind_at, depth_at, most_inputs}
 use Rattle.wg_standing.specs.declared.pending.Pending.{Pending}
 use Rattle.wg_standing.specs.Core.{CoreView}
-use Rattle.wg_standing.specs.Outs.{numbers_out, unopened}
+use Rattle.wg_standing.specs.Outs.{IsAllowed, unopened}
 use Rattle.wg_standing.specs.Standing.{reserved}
 
 -- a unit has room beside the slots in use and those reserved for the launches out
@@ -38,31 +36,17 @@ abbrev pub first_group : List Live → List ℕ
 first_group [] = []
 first_group (x ∷ xs) = unwrap_or (slice_get x.groups 0) []
 
-abbrev pub first_words : List Live → List ℕ
-first_words [] = []
-first_words (x ∷ xs) = x.words
-
 abbrev pub first_unit : List Live → ℕ
 first_unit [] = 0
 first_unit (x ∷ xs) = x.unit
 
 -- the launch that takes from the front of a list
-abbrev pub launch_from : Shape → ℕ → List Live → Launch
-launch_from shape u xs =
-    record {
-      unit = u;
-      records = map record_of (front_for shape u xs);
-      group = place_of (grid_of (kind_at shape u) (first_words xs)) (first_group xs);
-      grid = grid_of (kind_at shape u) (first_words xs);
-      last = false;
-    }
-
 abbrev pub pending_from : ℕ → Shape → ℕ → List Live → Pending
 pending_from ticket shape u xs =
     record {
       ticket = ticket;
+      unit = u;
       at = first_group xs;
-      launch = launch_from shape u xs;
       inputs = numbers_of (map record_of (front_for shape u xs));
     }
 
@@ -86,8 +70,7 @@ pub record NoChoice (core : CoreView) : Type 0 where
   pub unentered : CanEnter core → ⊥
 
 -- what the opening of a launch asks for: what is unopened allows it, its unit has room, and its ticket is the next
-pub record CanOpen (core : CoreView) (bag : List Live) (o : Pending) : Type 0 where
-  pub allowed : Allows core.shape (unopened core.outs bag) o.launch o.at
-  pub room : UnitHasRoom core o.launch.unit
+pub record CanOpen (core : CoreView) (o : Pending) : Type 0 where
+  pub allowed : IsAllowed core.shape (unopened core.outs core.bag) o
+  pub room : UnitHasRoom core o.unit
   pub ticket : o.ticket ≡ core.tickets
-  pub inputs : o.inputs ≡ numbers_out o

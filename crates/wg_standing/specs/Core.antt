@@ -23,6 +23,8 @@ pub record CoreView : Type 0 where
   -- the number of the next record
   pub next : ℕ
   pub buffers : Buffers
+  -- the records of the machine in rising order of number, with their words and the groups that have not run
+  pub bag : List Live
   -- by unit: the records in slots that wait, with the groups that are not opened
   pub waits : List (List Live)
   -- what is left of the entry list, with the groups that are not opened
@@ -50,6 +52,7 @@ core_begun shape width limits script start_buffers =
       journal = [];
       next = length script;
       buffers = start_buffers;
+      bag = flat_map kept (born shape 0 script);
       waits = replicate (length shape.units) [];
       entries = flat_map kept (born shape 0 script);
       used = replicate (length shape.units) 0;

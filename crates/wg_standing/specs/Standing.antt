@@ -17,7 +17,7 @@ use Rattle.wg_machine.specs.Step.{Passed}
 use Rattle.wg_machine.specs.Units.{kind_at, words_at}
 use Rattle.wg_standing.specs.declared.pending.Pending.{Pending}
 use Rattle.wg_standing.specs.Core.{CoreView}
-use Rattle.wg_standing.specs.Outs.{numbers_out, unopened, AllAllowed, AllApart}
+use Rattle.wg_standing.specs.Outs.{AllAllowed, AllApart, launch_now, unopened}
 
 -- a record in a slot of the unit: no entry record
 abbrev pub in_slot : ℕ → ℕ → Live → Bool
@@ -38,7 +38,7 @@ counts handed v (suc n) bag = count_by (in_slot handed v) bag ∷ counts handed 
 
 -- what the launches out may send to a unit
 abbrev pub reserved : Shape → List Pending → ℕ → ℕ
-reserved shape outs v = sum_by (λ (o : Pending). need shape o.launch.unit v) outs
+reserved shape outs v = sum_by (λ (o : Pending). need shape o.unit v) outs
 
 -- no launch out has the ticket
 abbrev pub IsNotOut : ℕ → List Pending → Type 0
@@ -50,10 +50,6 @@ TicketsDiffer (o ∷ outs) = IsNotOut o.ticket outs × TicketsDiffer outs
 
 abbrev pub TicketsBelow : ℕ → List Pending → Type 0
 TicketsBelow n outs = Each (λ (o : Pending). o.ticket < n) outs
-
--- each launch out has its list of inputs at hand
-abbrev pub AllNamed : List Pending → Type 0
-AllNamed outs = Each (λ (o : Pending). o.inputs ≡ numbers_out o) outs
 
 -- numbers rise, from n on, and stay below the end
 abbrev pub Rises : ℕ → List Live → ℕ → Type 0
@@ -80,11 +76,16 @@ pub record IsWithin (grid at : List ℕ) : Type 0 where
   pub y : slice_index at 1 < slice_index grid 1
   pub z : slice_index at 2 < slice_index grid 2
 
+-- the grid of some record of the unit
+abbrev pub IsGridAt : Shape → ℕ → List ℕ → Type 0
+IsGridAt shape unit grid = (words : List ℕ) × (grid ≡ grid_of (kind_at shape unit) words)
+
 -- a live record has a group to run, each within its grid, and all of one where it has but one
 pub record IsFull (shape : Shape) (x : Live) : Type 0 where
   pub some : 0 < length x.groups
   pub whole : has_one_group (kind_at shape x.unit) ≡ true → x.groups ≡ origin ∷ []
-  pub within : Each (IsWithin (grid_of (kind_at shape x.unit) x.words)) x.groups
+  pub within : Each (IsWithin x.grid) x.groups
+  pub grid : IsGridAt shape x.unit x.grid
 
 abbrev pub EachFull : Shape → List Live → Type 0
 EachFull shape bag = Each (IsFull shape) bag
@@ -102,7 +103,7 @@ pub record IsPlaced (core : CoreView) (bag : List Live) : Type 0 where
   -- what waits in slots and what is left of the entries is the bag but for what the launches out took
   pub waits : core.waits ≡ by_unit core.handed 0 (length core.shape.units) (unopened core.outs bag)
   pub entries : core.entries ≡ filter (is_entry_record core.handed) (unopened core.outs bag)
-  -- the bag allows each launch out, and no two take one group of one record
+  -- the bag allows the launch of now of each launch out, and no two take one group of one record
   pub allowed : AllAllowed core.shape bag core.outs
   pub apart : AllApart core.outs
   -- tickets differ, are below the next one, and are as many as the entries of the journal and the launches out
@@ -110,7 +111,6 @@ pub record IsPlaced (core : CoreView) (bag : List Live) : Type 0 where
   pub tickets_below : TicketsBelow core.tickets core.outs
   pub tickets : core.tickets ≡ length core.journal + length core.outs
   pub launches : length core.journal + length core.outs ≤ core.limits.launches
-  pub inputs : AllNamed core.outs
   -- numbers rise, no group stands twice, and each record is whole
   pub rises : Rises 0 bag core.next
   pub handed : core.handed ≤ core.next
@@ -129,12 +129,12 @@ pub record IsWhole (core : CoreView) (bag : List Live) : Type 0 where
   pub known : EachKnown (length core.shape.units) bag
   pub words : EachHasWords core.shape bag
 
--- the launch with this ticket is out, and is spent on these buffers
+-- the launch with this ticket is out, and its launch of now is spent on these buffers
 pub record IsSpent (made : Meaning) (core : CoreView) (ticket : ℕ) : Type 0 where
   pub pending : Pending
   pub is_out : Contains core.outs pending
   pub named : pending.ticket ≡ ticket
-  pub spent : made pending.launch core.buffers core.limits.turns ≡ None
+  pub spent : made (launch_now core.shape core.bag pending) core.buffers core.limits.turns ≡ None
 
 -- The core stands for bodies, by what they mean, and for a script.
 pub record StandsFor (made : Meaning) (script : List Sent) (start_buffers : Buffers) (core : CoreView) : Type 0 where
@@ -143,8 +143,9 @@ pub record StandsFor (made : Meaning) (script : List Sent) (start_buffers : Buff
   -- the journal is a run from the script
   pub run : IsRun core.shape made core.limits.turns (start_of core.shape script start_buffers) core.journal trail state
   pub handed : core.handed ≡ length script
-  -- the records are those of the bag after it, each in one place
-  pub placed : IsPlaced core state.bag
+  -- the records are those of the bag after it, each in one place, with their words
+  pub bag : core.bag ≡ state.bag
+  pub placed : IsPlaced core core.bag
   -- the next number, the buffers, the denied requests and the peak are the run's
   pub next : core.next ≡ state.next
   pub buffers : core.buffers ≡ state.buffers

@@ -1,6 +1,6 @@
-ghost use Rattle.wg_standing.specs.Laws.{BeginningsPlace, BeginningsStand, BytesAreOfSlots, ChoicesCanOpen, CompleteIsIdle, IdleIsComplete, LaunchesLeaveEachList, NeverBlocked, OnlyUnitsAreNeeded, OpeningsLeave, OpeningsPlace, OpeningsStand, OutsFit, SettlingsFree, SettlingsLeave, SettlingsPlace, SettlingsStand, StoppingsStand, TakenStay, UnopenedIsWhole};
+ghost use Rattle.wg_standing.specs.Laws.{BeginningsPlace, BeginningsStand, BytesAreOfSlots, ChoicesCanOpen, CompleteIsIdle, IdleIsComplete, LaunchesLeaveEachList, NeverBlocked, OnlyUnitsAreNeeded, OpeningsLeave, OpeningsPlace, OpeningsStand, OutsFit, PeaksFitPlan, SettlingsFree, SettlingsLeave, SettlingsPlace, SettlingsStand, StoppingsStand, TakenStay, UnopenedIsWhole, UnsharedStay};
 
-use wg_machine::needs_are_kept;
+use wg_machine::{needs_are_kept, peak_is_within_plan};
 
 /// A core at the start of a script has each entry record in its place.
 pub fn beginnings_place()
@@ -71,6 +71,13 @@ pub fn bytes_are_of_slots()
     ensures { BytesAreOfSlots }
 {}
 
+/// The peak of a run is within the bytes of the plan.
+pub fn peaks_fit_plan()
+    ensures { PeaksFitPlan }
+{
+    peak_is_within_plan();
+}
+
 /// What is unopened rises by number, and each of its records is whole.
 pub fn unopened_is_whole()
     ensures { UnopenedIsWhole }
@@ -104,4 +111,9 @@ pub fn taken_stay()
 /// Nothing is needed of what is no unit.
 pub fn only_units_are_needed()
     ensures { OnlyUnitsAreNeeded }
+{}
+
+/// In a graph that shares no records the launches of now of those that stay out are what they were.
+pub fn unshared_stay()
+    ensures { UnsharedStay }
 {}

@@ -7,7 +7,8 @@ mod pending;
 pub use laws::{
     beginnings_place, beginnings_stand, bytes_are_of_slots, choices_can_open, complete_is_idle,
     idle_is_complete, launches_leave_each_list, never_blocked, only_units_are_needed,
-    openings_leave, openings_place, openings_stand, outs_fit, settlings_free, settlings_leave,
-    settlings_place, settlings_stand, stoppings_stand, taken_stay, unopened_is_whole,
+    openings_leave, openings_place, openings_stand, outs_fit, peaks_fit_plan, settlings_free,
+    settlings_leave, settlings_place, settlings_stand, stoppings_stand, taken_stay,
+    unopened_is_whole, unshared_stay,
 };
 pub use pending::Pending;

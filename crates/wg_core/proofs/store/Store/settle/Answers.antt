@@ -5,6 +5,7 @@ use Rattle.wg_words.specs.Each.{Each}
 use Rattle.wg_machine.specs.declared.launch.Live.{Live}
 use Rattle.wg_standing.specs.Moves.{used_more}
 use Rattle.wg_core.specs.Store.{StoreView, CanSettle, StoreSettles, ArrivesIn, thread_born, frees}
+use Rattle.wg_core.specs.Running.{names_of}
 use Rattle.wg_core.specs.StoreInside.{store_view}
 use Rattle.wg_core.proofs.Keeping.{row_says, slots_small, tail_is, length_born, born_arrive, used_within}
 use Rattle.wg_core.proofs.Slotting.{refilled, length_more}
@@ -13,7 +14,7 @@ use Rattle.wg_core.proofs.store.Store.settle.Goals as goal
 pub change-requires-clause-arrived : goal.change-requires-clause-arrived
 change-requires-clause-arrived c =
     let s = c.self.inside in
-    let can : CanSettle (store_view s) c.args.pending.now c.args.next c.args.sent = subst (λ (k : StoreView). CanSettle k c.args.pending.now c.args.next c.args.sent) (sym c.self.view_is) c.requires.can in
+    let can : CanSettle (store_view s) (names_of c.args.running.now) c.args.next c.args.sent = subst (λ (k : StoreView). CanSettle k (names_of c.args.running.now) c.args.next c.args.sent) (sym c.self.view_is) c.requires.can in
     let fresh : c.in_ok-arrived.arrived.items ≡ thread_born c.args.next c.args.sent = c.in_ok-arrived.ensures ∙ ap (thread_born c.args.next) c.as_slice.ensures in
     let tail : take (length c.deref.result.now - c.len-before.result) (drop c.len-before.result c.deref.result.now) ≡ c.in_ok-arrived.arrived.items = tail_is s.waiting.items c.in_ok-arrived.arrived.items c.deref.result.now c.len-before.result (c.deref.ensures.value ∙ c.in_ok-append.ensures.items) (c.len-before.ensures ∙ s.waiting.ok.0) in
     let long : length s.shape.units ≡ length c.as_mut_slice.result.now = sym (ap (λ (xs : List ℕ). length xs) c.as_mut_slice.ensures.value ∙ c.self.invariant.all_used) in
@@ -35,15 +36,15 @@ change-requires-clause-small c = λ v.
 pub give_back-requires-clause-lengths : goal.give_back-requires-clause-lengths
 give_back-requires-clause-lengths c =
     let s = c.self.inside in
-    let can : CanSettle (store_view s) c.args.pending.now c.args.next c.args.sent = subst (λ (k : StoreView). CanSettle k c.args.pending.now c.args.next c.args.sent) (sym c.self.view_is) c.requires.can in
-    let n = row_says c.only_units_are_needed.ensures s c.as_slice-3.result.now c.args.pending.now.launch.unit c.index-as_slice-unit.result c.self.invariant c.as_slice-3.ensures can.unit c.index-as_slice-unit.is in
+    let can : CanSettle (store_view s) (names_of c.args.running.now) c.args.next c.args.sent = subst (λ (k : StoreView). CanSettle k (names_of c.args.running.now) c.args.next c.args.sent) (sym c.self.view_is) c.requires.can in
+    let n = row_says c.only_units_are_needed.ensures s c.as_slice-3.result.now c.args.running.now.launch.unit c.index-as_slice-unit.result c.self.invariant c.as_slice-3.ensures can.unit c.index-as_slice-unit.is in
     ap (λ (xs : List ℕ). length xs) c.as_slice-4.ensures ∙ n.many ∙ sym (ap (λ (xs : List ℕ). length xs) c.as_mut_slice-2.ensures.value ∙ c.self.invariant.all_reserved)
 
 pub give_back-requires-clause-enough : goal.give_back-requires-clause-enough
 give_back-requires-clause-enough c = λ v.
     let s = c.self.inside in
-    let can : CanSettle (store_view s) c.args.pending.now c.args.next c.args.sent = subst (λ (k : StoreView). CanSettle k c.args.pending.now c.args.next c.args.sent) (sym c.self.view_is) c.requires.can in
-    let n = row_says c.only_units_are_needed.ensures s c.as_slice-3.result.now c.args.pending.now.launch.unit c.index-as_slice-unit.result c.self.invariant c.as_slice-3.ensures can.unit c.index-as_slice-unit.is in
+    let can : CanSettle (store_view s) (names_of c.args.running.now) c.args.next c.args.sent = subst (λ (k : StoreView). CanSettle k (names_of c.args.running.now) c.args.next c.args.sent) (sym c.self.view_is) c.requires.can in
+    let n = row_says c.only_units_are_needed.ensures s c.as_slice-3.result.now c.args.running.now.launch.unit c.index-as_slice-unit.result c.self.invariant c.as_slice-3.ensures can.unit c.index-as_slice-unit.is in
     let is = n.at v in
     let r = can.reserves v in
     let a = ap (λ (xs : List ℕ). slice_index xs v) c.as_slice-4.ensures in
@@ -54,8 +55,8 @@ pub invariant_of-self-2 : goal.invariant_of-self-2
 invariant_of-self-2 c =
     let s = c.self.inside in
     let i = c.self.invariant in
-    let unit = c.args.pending.now.launch.unit in
-    let can : CanSettle (store_view s) c.args.pending.now c.args.next c.args.sent = subst (λ (k : StoreView). CanSettle k c.args.pending.now c.args.next c.args.sent) (sym c.self.view_is) c.requires.can in
+    let unit = c.args.running.now.launch.unit in
+    let can : CanSettle (store_view s) (names_of c.args.running.now) c.args.next c.args.sent = subst (λ (k : StoreView). CanSettle k (names_of c.args.running.now) c.args.next c.args.sent) (sym c.self.view_is) c.requires.can in
     let n = row_says c.only_units_are_needed.ensures s c.as_slice-3.result.now unit c.index-as_slice-unit.result i c.as_slice-3.ensures can.unit c.index-as_slice-unit.is in
     let fresh : c.in_ok-arrived.arrived.items ≡ thread_born c.args.next c.args.sent = c.in_ok-arrived.ensures ∙ ap (thread_born c.args.next) c.as_slice.ensures in
     let tail : take (length c.deref.result.now - c.len-before.result) (drop c.len-before.result c.deref.result.now) ≡ c.in_ok-arrived.arrived.items = tail_is s.waiting.items c.in_ok-arrived.arrived.items c.deref.result.now c.len-before.result (c.deref.ensures.value ∙ c.in_ok-append.ensures.items) (c.len-before.ensures ∙ s.waiting.ok.0) in
@@ -89,8 +90,8 @@ pub returns-clause-ok : goal.returns-clause-ok
 returns-clause-ok c =
     let s = c.self.inside in
     let i = c.self.invariant in
-    let o = c.args.pending.now in
-    let unit = o.launch.unit in
+    let o = names_of c.args.running.now in
+    let unit = o.unit in
     let can : CanSettle (store_view s) o c.args.next c.args.sent = subst (λ (k : StoreView). CanSettle k o c.args.next c.args.sent) (sym c.self.view_is) c.requires.can in
     let n = row_says c.only_units_are_needed.ensures s c.as_slice-3.result.now unit c.index-as_slice-unit.result i c.as_slice-3.ensures can.unit c.index-as_slice-unit.is in
     let fresh : c.in_ok-arrived.arrived.items ≡ thread_born c.args.next c.args.sent = c.in_ok-arrived.ensures ∙ ap (thread_born c.args.next) c.as_slice.ensures in

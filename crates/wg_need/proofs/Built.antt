@@ -1,6 +1,5 @@
 -- The rows of a shape's units, built unit by unit.
 use Rattle.std.proofs.Common.{◌≡◌, ℕ, ◌+◌, ◌<◌, List, [], ◌∷◌, ◌++◌, length, All, slice_get, get_or, unwrap_or, refl, arith, inl, inr, below_more, length-append}
-use Rattle.std.specs.Option.{option_map}
 use Rattle.std.proofs.lemmas.Bool.{cases_lt}
 use Rattle.std.proofs.lemmas.List.{get_or_append_left, get_or_push}
 use Rattle.std.proofs.lemmas.List.Elements.{All-push, All-nil}
@@ -8,12 +7,8 @@ use Rattle.std.proofs.lemmas.Option.{slice_get_read, slice_get_past, unwrap_or-s
 use Rattle.wg_machine.specs.declared.shape.Unit.{Unit}
 use Rattle.wg_machine.specs.Need.{need_of}
 use Rattle.wg_need.specs.declared.table.Need.{Need}
-use Rattle.wg_need.specs.Rows.{need_in}
+use Rattle.wg_need.specs.Rows.{need_in, need_by}
 use Rattle.wg_need.specs.Rows.{IsSoundRow}
-
--- what a unit by its number needs
-abbrev pub need_by : List Unit → ℕ → ℕ → ℕ
-need_by units u v = unwrap_or (option_map (λ (n : Unit). need_of n v) (slice_get units u)) 0
 
 -- the rows of the first units
 pub record AreRows (units : List Unit) (count i : ℕ) (rows : List (List Need)) : Type 0 where

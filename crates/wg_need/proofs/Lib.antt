@@ -1,3 +1,4 @@
+mod Adding
 mod Bounds
 mod Built
 mod Gathering

@@ -5,7 +5,7 @@ use Rattle.std.proofs.lemmas.Bool.Decides.{eqb_tells}
 use Rattle.std.proofs.lemmas.Option.{slice_get_read}
 use Rattle.wg_need.specs.declared.table.Need.{Need}
 use Rattle.wg_need.specs.Rows.{need_in, IsSoundRow}
-use Rattle.wg_room.specs.Counts.{Counts, need_at, HasRoom, Reserves}
+use Rattle.wg_room.specs.Counts.{Counts, need_at, HasSlotsLeft, Reserves}
 use Rattle.wg_room.specs.Sound.{IsMet, AreSound}
 
 -- the row that is found at a unit
@@ -58,7 +58,7 @@ row_at c u x row sound h is same =
       needs = λ v. ap (λ r. need_in r v) (row_found c.needs u x within is);
     })
 
-pub room_exact : (c : Counts) (u : ℕ) (row : List Need) (result : Bool) → IsRow c u row → (IsTrue result ↔ All (IsMet c.bounds c.used c.reserved) row) → IsTrue result ↔ HasRoom c u
+pub room_exact : (c : Counts) (u : ℕ) (row : List Need) (result : Bool) → IsRow c u row → (IsTrue result ↔ All (IsMet c.bounds c.used c.reserved) row) → IsTrue result ↔ HasSlotsLeft c u
 room_exact c u row result r tells = (
   λ yes v some. rw (r.needs v) (met_has_room (length c.bounds) c.bounds c.used c.reserved row r.sound (tells.0 yes) v (rw (r.needs v) at some)),
   λ room. tells.1 (room_is_met (length c.bounds) c.bounds c.used c.reserved row r.sound (λ v some. rw (r.needs v) at (room v (rw (r.needs v) some)))),
@@ -81,6 +81,6 @@ releases_exact c u row new len r e same adds =
     rw (whole c.reserved new len e same)
     (record { same = refl; count = sym same; reserved = λ v. rw (r.needs v) (adds v) })
 
-pub room_fits : (c : Counts) (u : ℕ) (row : List Need) → AreSound c → IsRow c u row → HasRoom c u
+pub room_fits : (c : Counts) (u : ℕ) (row : List Need) → AreSound c → IsRow c u row → HasSlotsLeft c u
     → (v : ℕ) → 0 < need_in row v → slice_index c.reserved v + need_in row v < 2 ^ 32
 room_fits c u row sound r room v some = omega (arith, rw (r.needs v) at (room v (rw (r.needs v) some)), sound.fit v)

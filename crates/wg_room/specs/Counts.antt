@@ -15,8 +15,8 @@ abbrev pub need_at : Counts → ℕ → ℕ → ℕ
 need_at c u v = rows.need_at c.needs u v
 
 -- Each unit to which a launch of u may send has slots left for all that it may send there.
-abbrev pub HasRoom : Counts → ℕ → Type 0
-HasRoom c u =
+abbrev pub HasSlotsLeft : Counts → ℕ → Type 0
+HasSlotsLeft c u =
     (v : ℕ) → 0 < need_at c u v → slice_index c.used v + slice_index c.reserved v + need_at c u v ≤ slice_index c.bounds v
 
 -- what a launch of u may send is reserved, and all else stays

@@ -29,7 +29,7 @@ impl Model for Room {
 }
 
 impl Room {
-    ghost use Rattle.wg_room.specs.Counts.{need_at, HasRoom, Reserves};
+    ghost use Rattle.wg_room.specs.Counts.{need_at, HasSlotsLeft, Reserves};
 
     /// No slot of a shape's units is used or reserved. The later calls take no memory.
     pub fn new(alloc: Global, shape: &Shape, bounds: &[u32]) -> Result<Room, AllocError>
@@ -51,7 +51,7 @@ impl Room {
     /// Whether each unit to which a launch of a unit may send has slots left for all of it.
     pub fn has_room(&self, unit: u32) -> bool
         requires { unit < length self.now.bounds }
-        ensures { IsTrue result ↔ HasRoom self.now unit }
+        ensures { IsTrue result ↔ HasSlotsLeft self.now unit }
     {
         let needs = self.needs[unit as usize].as_slice();
         all_fit(needs, &self.bounds, &self.used, &self.reserved)
@@ -60,7 +60,7 @@ impl Room {
     /// Reserves what a launch of a unit may send.
     pub fn reserve(&mut self, unit: u32)
         requires unit { unit < length self.old.bounds }
-        requires room { HasRoom self.old unit }
+        requires room { HasSlotsLeft self.old unit }
         ensures { Reserves self.old self.new unit }
     {
         reserve_all(&mut self.reserved, self.needs[unit as usize].as_slice());

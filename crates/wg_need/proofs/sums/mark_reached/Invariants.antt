@@ -1,7 +1,0 @@
-use Rattle.std.proofs.Common.{◌≡◌, ℕ, ◌<◌, false, length, slice_index_or, take}
-use Rattle.wg_machine.specs.Need.{reaches}
-use Rattle.wg_need.proofs.sums.mark_reached.Given as goal
-
-abbrev pub invariant-loop-output : goal.invariant-loop-output
-invariant-loop-output l =
-    (v : ℕ) → v < length l.reached → slice_index_or l.reached v false ≡ reaches (take l.output-index l.outputs) l.budget v

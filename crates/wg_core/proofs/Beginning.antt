@@ -3,6 +3,7 @@ use Rattle.std.proofs.Common.{◌≡◌, ℕ, zero, suc, ◌+◌, ◌≤◌, fal
 use Rattle.std.specs.Prelude.{filter, nat_le, replicate, slice_index}
 use Rattle.std.specs.List.{flat_map}
 use Rattle.std.proofs.lemmas.Bool.Decides.{nat_tests}
+use Rattle.wg_words.specs.declared.limits.TheConstants.{MOST_ENTRIES, MOST_LAUNCHES}
 use Rattle.wg_words.specs.Each.{Each}
 use Rattle.wg_machine.specs.declared.shape.Shape.{Shape}
 use Rattle.wg_machine.specs.declared.launch.Limits.{Limits}
@@ -48,7 +49,7 @@ begun_view shape width limits script threads =
     no_more [] = refl
     no_more (x ∷ xs) = ap (λ (rest : List Live). x ∷ rest) (no_more xs)
 
-pub begun_sound : BeginningsPlace → (shape : Shape) (width : ℕ) (limits : Limits) (script : List Sent) (places : ℕ) → IsGoodShape shape → AllThread shape → 1 ≤ width → Each (Arrives shape) script → length script ≤ 1000000 → limits.launches ≤ 10000000 → IsSoundCore (begun_store shape width script) (view_of (begun_store shape width script) limits [] (length script) [] 0 0 0 None) [] places
+pub begun_sound : BeginningsPlace → (shape : Shape) (width : ℕ) (limits : Limits) (script : List Sent) (places : ℕ) → IsGoodShape shape → AllThread shape → 1 ≤ width → Each (Arrives shape) script → length script ≤ MOST_ENTRIES → limits.launches ≤ MOST_LAUNCHES → IsSoundCore (begun_store shape width script) (view_of (begun_store shape width script) limits [] (length script) [] 0 0 0 None) [] places
 begun_sound law shape width limits script places good threads wide arrive few launches =
     let bag = flat_map kept (born shape 0 script) in
     let placed = law shape width limits script [] arrive in

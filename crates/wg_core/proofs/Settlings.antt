@@ -4,6 +4,7 @@ use Rattle.std.specs.Prelude.{if◌then◌else◌, ◌==◌, ◌&&◌, filter, s
 use Rattle.std.specs.List.{flat_map}
 use Rattle.std.proofs.lemmas.Bool.Decides.{nat_tests}
 use Rattle.std.proofs.lemmas.List.{length_push}
+use Rattle.wg_words.specs.declared.limits.TheConstants.{MOST_SENT}
 use Rattle.wg_words.specs.Each.{Each}
 use Rattle.wg_machine.specs.declared.shape.Shape.{Shape}
 use Rattle.wg_machine.specs.declared.shape.Unit.{Unit as Node}
@@ -30,7 +31,6 @@ use Rattle.wg_core.specs.Running.{EachOfThread, all_names, names_of, record_out,
 use Rattle.wg_core.proofs.Bags.{below_at, names_append, none_shared, ready_is_now, run_leaves, run_there, with_new}
 use Rattle.wg_core.specs.Store.{CanSettle, StoreView, StoreSettles, frees, thread_born}
 use Rattle.wg_standing.specs.Idle.{SomeIsOut}
-use Rattle.wg_core.proofs.Bounds.{sent_few}
 use Rattle.wg_core.proofs.Fronts.{EachWhole, numbers}
 use Rattle.wg_core.proofs.Lists.{by_unit_append, count_cons, filter_append, pay, reserved_without}
 use Rattle.wg_core.proofs.Openings.{Rest, seen}
@@ -89,6 +89,10 @@ length_without (x ∷ xs) o ys = let k = length_without xs o ys in omega (arith,
 abbrev pub NeedsAreKept : Type 0
 NeedsAreKept = (u : Node) (sent : List Sent) (v : ℕ) → KeepsBudgets u sent → count_by (λ (s : Sent). s.unit == v) sent ≤ need_of u v
 
+-- the law that few records are sent
+abbrev pub FewAreSent : Type 0
+FewAreSent = (shape : Shape) (l : Launch) (buffers : Buffers) (turns : ℕ) (o : Outcome) → IsGoodShape shape → FitsShape shape l → KeepsLaws shape l buffers turns o → length o.sent ≤ MOST_SENT
+
 record IsThere (units : List Node) (u : ℕ) : Type 0 where
   pub node : Node
   pub there : slice_get units u ≡ Some node
@@ -102,17 +106,16 @@ node_there (n ∷ units) (suc u) h = let r = node_there units u (omega arith) in
 pub record SendsFew (shape : Shape) (unit : ℕ) (sent : List Sent) : Type 0 where
   pub arrive : Each (Arrives shape) sent
   pub few : (v : ℕ) → count_by (λ (s : Sent). s.unit == v) sent ≤ need shape unit v
-  pub total : length sent ≤ 16384
+  pub total : length sent ≤ MOST_SENT
 
-pub sends_few : NeedsAreKept → (shape : Shape) (l : Launch) (buffers : Buffers) (turns : ℕ) (o : Outcome) → IsGoodShape shape → FitsShape shape l → KeepsLaws shape l buffers turns o → SendsFew shape l.unit o.sent
-sends_few law shape l buffers turns o good fits laws =
+pub sends_few : NeedsAreKept → FewAreSent → (shape : Shape) (l : Launch) (buffers : Buffers) (turns : ℕ) (o : Outcome) → IsGoodShape shape → FitsShape shape l → KeepsLaws shape l buffers turns o → SendsFew shape l.unit o.sent
+sends_few law few shape l buffers turns o good fits laws =
     let n = node_there shape.units l.unit fits.unit in
     let budgets = laws.budgets n.node n.there in
-    let g = good.units l.unit n.node n.there in
     record {
       arrive = laws.arrive;
       few = λ v. subst (λ (m : ℕ). count_by (λ (s : Sent). s.unit == v) o.sent ≤ m) (sym (need_there shape l.unit v n.node n.there)) (law n.node o.sent v budgets);
-      total = sent_few n.node o.sent g.few_outputs g.budgets budgets;
+      total = few shape l buffers turns o good fits laws;
     }
   where
     need_there : (shape : Shape) (u v : ℕ) (n : Node) → slice_get shape.units u ≡ Some n → need shape u v ≡ need_of n v

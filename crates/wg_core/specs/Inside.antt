@@ -1,5 +1,6 @@
 -- Inside a core: its fields, and what every core keeps.
 use Rattle.std.specs.Prelude.{◌≡◌, ℕ, ◌+◌, ◌*◌, ◌^◌, ◌≤◌, Bool, List, [], ◌++◌, length, filter, nat_le, Option, IfSome, Some, slice_get, slice_index}
+use Rattle.wg_words.specs.declared.limits.TheConstants.{MOST_ENTRIES, MOST_LAUNCHES, MOST_SENT}
 use Rattle.wg_words.specs.Each.{Each}
 use Rattle.wg_machine.specs.declared.launch.Entry.{Entry}
 use Rattle.wg_machine.specs.declared.launch.Limits.{Limits}
@@ -49,8 +50,8 @@ pub record IsSoundCore (k : StoreView) (core : CoreView) (runs : List Running) (
   pub threads : AllThread core.shape
   pub wide : 1 ≤ core.width
   -- bounds of the numbers
-  pub few : core.limits.launches ≤ 10000000
-  pub next : core.next ≤ 1000000 + 16384 * length core.journal
+  pub few : core.limits.launches ≤ MOST_LAUNCHES
+  pub next : core.next ≤ MOST_ENTRIES + MOST_SENT * length core.journal
   pub denied : core.denied ≤ 2 ^ 32 * length core.journal
   pub born : Each (λ (e : Entry). e.first_out + e.outs ≤ core.next) core.journal
   pub spent : IfSome core.stopped (SomeIsOut core)

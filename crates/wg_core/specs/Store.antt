@@ -1,6 +1,7 @@
 -- Inside a core: what waits, in plain lists, and the slots in use.
 use Rattle.std.specs.Prelude.{◌≡◌, ◌≢◌, ◌⊎◌, ℕ, ◌<◌, ◌+◌, ◌≤◌, ◌==◌, List, [], ◌∷◌, ◌++◌, length, map, Option, Some, None, slice_index, slice_get, nat_le, count_by, remove, drop, replicate}
 use Rattle.std.specs.List.{range_with_len}
+use Rattle.wg_words.specs.declared.limits.TheConstants.{MOST_SENT}
 use Rattle.wg_words.specs.Each.{Each}
 use Rattle.wg_machine.specs.declared.shape.Kind.TheVariants.{Thread}
 use Rattle.wg_machine.specs.declared.shape.Shape.{Shape}
@@ -131,7 +132,7 @@ pub record StoreSettles (old new : StoreView) (o : Pending) (next : ℕ) (sent :
 pub record CanSettle (k : StoreView) (o : Pending) (next : ℕ) (sent : List Sent) : Type 0 where
   pub arrive : Each (Arrives k.shape) sent
   pub few : (v : ℕ) → count_by (λ (s : Sent). s.unit == v) sent ≤ need k.shape o.unit v
-  pub total : length sent ≤ 16384
+  pub total : length sent ≤ MOST_SENT
   pub reserves : (v : ℕ) → need k.shape o.unit v ≤ slice_index k.reserved v
   pub unit : o.unit < length k.shape.units
   pub frees : frees k.handed o ≤ slice_index k.used o.unit

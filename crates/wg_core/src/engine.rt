@@ -1,5 +1,6 @@
 ghost use Rattle.std.specs.Prelude.{◌≡◌, ◌≤◌, ◌<◌, ◌+◌, ◌^◌, ◌==◌, [], ◌∷◌, ◌++◌, length, remove, slice_get, List, None, Some, IfOk, IfSome, IfNone, IsTrue, ◌↔◌, if◌then◌else◌};
 ghost use Rattle.wg_words.specs.Each.{Each};
+ghost use Rattle.wg_words.specs.declared.limits.TheConstants.{MOST_ENTRIES, MOST_LAUNCHES};
 ghost use Rattle.wg_machine.specs.declared.shape.Unit.{Unit as Node};
 ghost use Rattle.wg_machine.specs.declared.shape.Kind.TheVariants.{Thread};
 ghost use Rattle.wg_machine.specs.declared.launch.Entry.{Entry as Line};
@@ -20,7 +21,8 @@ use crate::store::{Store, launch_of};
 use std::alloc::{AllocError, Global};
 use std::marker::Model;
 use wg_machine::{
-    Bodies, Entries, Entry, EntryList, Halt, Launch, Limits, Made, SentList, Shape, needs_are_kept,
+    Bodies, Entries, Entry, EntryList, Halt, Launch, Limits, Made, SentList, Shape, few_are_sent,
+    needs_are_kept,
 };
 use wg_standing::{
     beginnings_place, beginnings_stand, launches_leave_each_list, never_blocked, openings_leave,
@@ -111,8 +113,8 @@ impl Core {
         requires threads { Each (λ (u : Node). u.kind ≡ Thread) shape.units }
         requires no_buffers { shape.buffers ≡ [] }
         requires arrive { Each (Arrives shape) entries }
-        requires few { length entries ≤ 1000000 }
-        requires launches { limits.launches ≤ 10000000 }
+        requires few { length entries ≤ MOST_ENTRIES }
+        requires launches { limits.launches ≤ MOST_LAUNCHES }
         ensures begun { IfOk result (λ core. core ≡ core_begun shape 1 limits entries []) }
         ensures stands { IfOk result (λ core. (made : Meaning) → StandsFor made entries [] core) }
     {
@@ -129,8 +131,8 @@ impl Core {
         requires good { IsGoodShape shape }
         requires threads { Each (λ (u : Node). u.kind ≡ Thread) shape.units }
         requires arrive { Each (Arrives shape) entries }
-        requires few { length entries ≤ 1000000 }
-        requires launches { limits.launches ≤ 10000000 }
+        requires few { length entries ≤ MOST_ENTRIES }
+        requires launches { limits.launches ≤ MOST_LAUNCHES }
         ensures { IfOk result (λ core. core ≡ core_begun shape 1 limits entries []) }
     {
         beginnings_place();
@@ -227,6 +229,7 @@ impl Core {
         ensures { Settles (B.made bodies.now) self.old self.new ticket result }
     {
         needs_are_kept();
+        few_are_sent();
         outs_fit();
         settlings_place();
         settlings_leave();

@@ -1,5 +1,6 @@
 ghost use Rattle.std.specs.Prelude.{◌≡◌, ◌≤◌, ◌<◌, ◌+◌, ◌*◌, ◌^◌, ◌++◌, ℕ, [], drop, length, Some, IfOk, IfSome, IsSome, slice_get, IsTrue, ◌↔◌, OnOk, OnErr, slice_index, count_by, nat_le, vec_len, vec_capacity};
 ghost use Rattle.wg_words.specs.Each.{Each};
+ghost use Rattle.wg_words.specs.declared.limits.TheConstants.{MOST_STRIDE};
 ghost use Rattle.wg_machine.specs.Bytes.{plan_bytes};
 ghost use Rattle.wg_machine.specs.GoodShape.{IsGoodShape};
 ghost use Rattle.wg_machine.specs.Units.{depth_at, stride_at};
@@ -13,7 +14,9 @@ use crate::running::Running;
 use std::alloc::{AllocError, Global};
 use std::collections::VecDeque;
 use std::marker::Model;
-use wg_machine::{Entries, Groups, Launch, Live, Record, Records, Sent, SentList, Shape};
+use wg_machine::{
+    Entries, Groups, Launch, Live, Record, Records, Sent, SentList, Shape, few_units,
+};
 use wg_standing::only_units_are_needed;
 use wg_words::{Numbers, TryCopy};
 
@@ -341,6 +344,7 @@ fn bytes_in(shape: &Shape, counts: &[u32]) -> u64
     ensures value { result ≡ slot_bytes shape.now 0 counts.now }
     ensures bound { result < 2 ^ 58 }
 {
+    few_units();
     let mut bytes = 0;
     for (v, count) in counts.iter().enumerate() {
         bytes += u64::from(*count) * stride_of(shape, v);
@@ -351,7 +355,7 @@ fn bytes_in(shape: &Shape, counts: &[u32]) -> u64
 fn stride_of(shape: &Shape, unit: usize) -> u64
     requires { IsGoodShape shape.now }
     ensures value { result ≡ stride_at shape.now unit }
-    ensures bound { result ≤ 8192 }
+    ensures bound { result ≤ MOST_STRIDE }
 {
     match shape.units.get(unit) {
         Some(node) => u64::from(node.stride),

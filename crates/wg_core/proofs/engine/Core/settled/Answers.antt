@@ -147,7 +147,7 @@ settle-requires-clause-can g c =
     let outcome : Outcome = outcome_of made [] in
     let lawful : KeepsLaws (g.B.Bodies.graph c.args.bodies.now) o.launch [] s.limits.turns outcome = subst (λ (q : Running). KeepsLaws (g.B.Bodies.graph c.args.bodies.now) q.launch [] s.limits.turns outcome) chosen c.in-Ok.ensures.lawful in
     let laws : KeepsLaws s.store.shape o.launch [] s.limits.turns outcome = subst (λ (a : Shape). KeepsLaws a o.launch [] s.limits.turns outcome) shape lawful in
-    let few : SendsFew s.store.shape o.launch.unit made.sent = sends_few c.needs_are_kept.ensures s.store.shape o.launch [] s.limits.turns outcome c.self.invariant.good fits laws in
+    let few : SendsFew s.store.shape o.launch.unit made.sent = sends_few c.needs_are_kept.ensures c.few_are_sent.ensures s.store.shape o.launch [] s.limits.turns outcome c.self.invariant.good fits laws in
     let can = can_settle law s.store r _ before o later made.sent c.self.invariant p few in
     subst (λ (ss : List Sent). CanSettle s.store (names_of c.index-chosen.result.now) s.next ss) (sym c.sent_of-sent.ensures) (subst (λ (q : Running). CanSettle s.store (names_of q) s.next made.sent) (sym chosen) can)
 
@@ -183,7 +183,7 @@ overflow_cast-outs g c =
     let outcome : Outcome = outcome_of made [] in
     let lawful : KeepsLaws (g.B.Bodies.graph c.args.bodies.now) o.launch [] s.limits.turns outcome = subst (λ (q : Running). KeepsLaws (g.B.Bodies.graph c.args.bodies.now) q.launch [] s.limits.turns outcome) chosen c.in-Ok.ensures.lawful in
     let laws : KeepsLaws s.store.shape o.launch [] s.limits.turns outcome = subst (λ (a : Shape). KeepsLaws a o.launch [] s.limits.turns outcome) shape lawful in
-    let few : SendsFew s.store.shape o.launch.unit made.sent = sends_few c.needs_are_kept.ensures s.store.shape o.launch [] s.limits.turns outcome c.self.invariant.good fits laws in
+    let few : SendsFew s.store.shape o.launch.unit made.sent = sends_few c.needs_are_kept.ensures c.few_are_sent.ensures s.store.shape o.launch [] s.limits.turns outcome c.self.invariant.good fits laws in
     let n : c.len-outs.result ≡ length made.sent = c.len-outs.ensures ∙ ap (λ (ss : List Sent). length ss) c.sent_of-sent.ensures in
     let t = few.total in
     omega (arith, n, t)
@@ -207,7 +207,7 @@ invariant_of-self-in-Ok g c =
     let outcome : Outcome = outcome_of made [] in
     let lawful : KeepsLaws (g.B.Bodies.graph c.args.bodies.now) o.launch [] s.limits.turns outcome = subst (λ (q : Running). KeepsLaws (g.B.Bodies.graph c.args.bodies.now) q.launch [] s.limits.turns outcome) chosen c.in-Ok.ensures.lawful in
     let laws : KeepsLaws s.store.shape o.launch [] s.limits.turns outcome = subst (λ (a : Shape). KeepsLaws a o.launch [] s.limits.turns outcome) shape lawful in
-    let few : SendsFew s.store.shape o.launch.unit made.sent = sends_few c.needs_are_kept.ensures s.store.shape o.launch [] s.limits.turns outcome c.self.invariant.good fits laws in
+    let few : SendsFew s.store.shape o.launch.unit made.sent = sends_few c.needs_are_kept.ensures c.few_are_sent.ensures s.store.shape o.launch [] s.limits.turns outcome c.self.invariant.good fits laws in
     let unshared : outcome.shared ≡ None = none_new (shared_at s.store.shape o.launch.unit) (words_at s.store.shape o.launch.unit) outcome.shared laws.shared (none_shared s.store.shape c.self.invariant.good c.self.invariant.threads o.launch.unit) in
     let l = c.settle.new.self in
     let taken : c.remove-pending.result ≡ o = c.remove-pending.ensures.value ∙ get_or_from_slice_get s.outs.items i o c.remove-pending.result at.there in
@@ -246,7 +246,7 @@ returns-in-Ok-settle g c =
     let outcome : Outcome = outcome_of made [] in
     let lawful : KeepsLaws (g.B.Bodies.graph c.args.bodies.now) o.launch [] s.limits.turns outcome = subst (λ (q : Running). KeepsLaws (g.B.Bodies.graph c.args.bodies.now) q.launch [] s.limits.turns outcome) chosen c.in-Ok.ensures.lawful in
     let laws : KeepsLaws s.store.shape o.launch [] s.limits.turns outcome = subst (λ (a : Shape). KeepsLaws a o.launch [] s.limits.turns outcome) shape lawful in
-    let few : SendsFew s.store.shape o.launch.unit made.sent = sends_few c.needs_are_kept.ensures s.store.shape o.launch [] s.limits.turns outcome c.self.invariant.good fits laws in
+    let few : SendsFew s.store.shape o.launch.unit made.sent = sends_few c.needs_are_kept.ensures c.few_are_sent.ensures s.store.shape o.launch [] s.limits.turns outcome c.self.invariant.good fits laws in
     let unshared : outcome.shared ≡ None = none_new (shared_at s.store.shape o.launch.unit) (words_at s.store.shape o.launch.unit) outcome.shared laws.shared (none_shared s.store.shape c.self.invariant.good c.self.invariant.threads o.launch.unit) in
     let l = c.settle.new.self in
     let taken : c.remove-pending.result ≡ o = c.remove-pending.ensures.value ∙ get_or_from_slice_get s.outs.items i o c.remove-pending.result at.there in

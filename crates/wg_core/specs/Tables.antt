@@ -31,7 +31,7 @@ Opens old new opened.Memory =
     (old.stopped ≡ None) × (length old.journal + length old.outs < old.limits.launches)
     × ((o : Pending) × IsChoice old o) × (new ≡ old)
 
--- What `settle` answers. `Memory` may come in place of `Redone` and `TurnsSpent`; `StoreView` comes with guesses.
+-- What `settle` answers. `Memory` may come in place of `Redone` and `TurnsSpent`; `Kept` comes with guesses.
 abbrev pub Settles : Meaning → CoreView → CoreView → ℕ → Settled → Type 0
 Settles made old new ticket settled.Kept = ⊥
 Settles made old new ticket settled.Redone = (old.stopped ≡ None) × TakesStep made old new ticket

@@ -9,9 +9,9 @@ width_for None width least = width
 width_for (Some bytes) width least = if least == 0 then width else min 64 (bytes / least)
 
 -- given bytes hold one launch; without them the width takes at most 2^30 bytes
-abbrev pub Fits : Option ℕ → ℕ → ℕ → Type 0
-Fits None width least = width * least ≤ 2 ^ 30
-Fits (Some bytes) width least = least ≤ bytes
+abbrev pub IsAffordable : Option ℕ → ℕ → ℕ → Type 0
+IsAffordable None width least = width * least ≤ 2 ^ 30
+IsAffordable (Some bytes) width least = least ≤ bytes
 
 -- why there is no plan; want of memory needs no cause
 abbrev pub IsCause : Option ℕ → ℕ → ℕ → PlanFault → Type 0

@@ -3,7 +3,7 @@ ghost use Rattle.wg_machine.specs.Bytes.{plan_bytes, least as least_bytes};
 ghost use Rattle.wg_machine.specs.Need.{most};
 ghost use Rattle.wg_need.specs.Rows.{need_in, IsSoundRow};
 ghost use Rattle.wg_plan.specs.Limits.{IsSmall};
-ghost use Rattle.wg_plan.specs.Plan.{width_for as width_in, Fits, IsCause};
+ghost use Rattle.wg_plan.specs.Plan.{width_for as width_in, IsAffordable, IsCause};
 
 use crate::answer::{Plan, PlanFault};
 use std::alloc::{AllocError, Global};
@@ -30,7 +30,7 @@ pub fn plan(alloc: Global, shape: &Shape, bytes: Option<u64>, width: u32) -> Res
     ensures bytes { IfOk result (λ plan. plan.bytes ≡ plan_bytes shape.now plan.width) }
 
     // Each fault comes exactly with its cause, but for want of memory.
-    ensures fits { OnOk result (Fits bytes width (least_bytes shape.now)) }
+    ensures fits { OnOk result (IsAffordable bytes width (least_bytes shape.now)) }
     ensures causes { IfErr result (IsCause bytes width (least_bytes shape.now)) }
 {
     let mosts = mosts_of(alloc, shape)?;
@@ -51,7 +51,7 @@ fn width_for(bytes: Option<u64>, width: u32, least: u64) -> Result<u32, PlanFaul
     requires few { width ≤ 64 }
     requires small { least ≤ 2 ^ 40 }
     ensures width { IfOk result (λ wide. wide ≡ width_in bytes width least) }
-    ensures fits { OnOk result (Fits bytes width least) }
+    ensures fits { OnOk result (IsAffordable bytes width least) }
     ensures causes { IfErr result (IsCause bytes width least) }
 {
     match bytes {

@@ -4,37 +4,37 @@ use Rattle.wg_machine.specs.declared.launch.Record.{Record}
 
 -- A unit's slots: how many there are, the words of each record, the records that wait, in rising order of number, and
 -- those that are held, by slot.
-pub record Kept : Type 0 where
+pub record SlotsOf : Type 0 where
   pub slots : ℕ
   pub words : ℕ
   pub waiting : List Record
   pub held : List (Option Record)
 
 -- slots of which each is free
-abbrev pub all_free : ℕ → ℕ → Kept
+abbrev pub all_free : ℕ → ℕ → SlotsOf
 all_free slots words = record { slots = slots; words = words; waiting = []; held = [] }
 
 -- the slots of a unit by its number; none of an unknown one
-abbrev pub kept_at : List Kept → ℕ → Kept
-kept_at units u = unwrap_or (slice_get units u) (all_free 0 0)
+abbrev pub slots_at : List SlotsOf → ℕ → SlotsOf
+slots_at units u = unwrap_or (slice_get units u) (all_free 0 0)
 
 -- the record that a slot holds
-abbrev pub held_at : Kept → ℕ → Option Record
+abbrev pub held_at : SlotsOf → ℕ → Option Record
 held_at k slot = slice_index_or k.held slot None
 
-abbrev pub held_count : Kept → ℕ
+abbrev pub held_count : SlotsOf → ℕ
 held_count k = count_by is_some k.held
 
 -- how many slots neither wait nor are held
-abbrev pub free_of : Kept → ℕ
+abbrev pub free_of : SlotsOf → ℕ
 free_of k = k.slots - (length k.waiting + held_count k)
 
 -- one more record waits, after the others
-abbrev pub put_in : Kept → Record → Kept
+abbrev pub put_in : SlotsOf → Record → SlotsOf
 put_in k r = record k { waiting = k.waiting ++ r ∷ [] }
 
 -- the first record that waits goes to a slot that was not held, and all else stays
-pub record Holds (old new : Kept) (slot : ℕ) : Type 0 where
+pub record HoldsFirst (old new : SlotsOf) (slot : ℕ) : Type 0 where
   pub record_is : Record
   pub waited : old.waiting ≡ record_is ∷ new.waiting
   pub within : slot < old.slots
@@ -45,7 +45,7 @@ pub record Holds (old new : Kept) (slot : ℕ) : Type 0 where
   pub same : new ≡ record old { waiting = new.waiting; held = new.held }
 
 -- a slot holds nothing any more, and all else stays
-pub record Releases (old new : Kept) (slot : ℕ) : Type 0 where
+pub record Releases (old new : SlotsOf) (slot : ℕ) : Type 0 where
   pub is_free : held_at new slot ≡ None
   pub others : (other : ℕ) → other ≢ slot → held_at new other ≡ held_at old other
   pub count : held_count new + 1 ≡ held_count old

@@ -4,4 +4,4 @@
 mod slots;
 mod unit;
 
-pub use slots::Slots;
+pub use slots::{Seen, Slots};

@@ -1,5 +1,5 @@
 ghost use Rattle.std.specs.Prelude.{◌≡◌, ◌<◌, IsSome, Some, IfOk, length, slice_get};
-ghost use Rattle.wg_slots.specs.Kept.{all_free, held_at, free_of, put_in, Holds, Releases};
+ghost use Rattle.wg_slots.specs.SlotsOf.{all_free, held_at, free_of, put_in, HoldsFirst, Releases};
 
 use slab::Slab;
 use std::alloc::{AllocError, Global};
@@ -19,10 +19,10 @@ pub struct UnitSlots {
 impl Model for UnitSlots {
     ghost use Rattle.std.specs.VecDeque.{deque_len, deque_capacity};
     ghost use Rattle.slab.specs.Slab.{slab_len};
-    ghost use Rattle.wg_slots.specs.Kept.{Kept};
+    ghost use Rattle.wg_slots.specs.SlotsOf.{SlotsOf};
     ghost use Rattle.wg_slots.specs.Within.{AreWithin};
 
-    ghost Value = { Kept };
+    ghost Value = { SlotsOf };
 
     ghost view = { λ s. record { slots = s.count; words = s.words; waiting = s.waiting.items; held = s.held.slots } };
 
@@ -76,7 +76,7 @@ impl UnitSlots {
 
     pub fn hold(&mut self) -> u32
         requires { 0 < length self.old.waiting }
-        ensures { Holds self.old self.new result }
+        ensures { HoldsFirst self.old self.new result }
     {
         match self.waiting.pop_front() {
             Some(item) => self.held.insert_reserved(item) as u32,

@@ -12,13 +12,13 @@ use Rattle.std.specs.List.Sorted.{IsPermutation}
 use Rattle.std.specs.Ordering.{nat_cmp, ordering_then, is_lt}
 use Rattle.std.specs.declared.cmp.Ordering.{Ordering}
 use Rattle.std.specs.declared.cmp.Ordering.TheVariants.{Less, Equal}
-use Rattle.wg_pick.specs.Row.{ComesFirst, IsOrder, IsPlaced}
+use Rattle.wg_pick.specs.Row.{ComesFirst, IsOrder, HasItsPlace}
 
 -- ---- places
 
 pub record ArePlaced (order places : List ℕ) (count : ℕ) : Type 0 where
   pub same_length : length places ≡ length order
-  pub placed : (place : ℕ) → place < count → IsPlaced order places (slice_index order place)
+  pub placed : (place : ℕ) → place < count → HasItsPlace order places (slice_index order place)
 
 pub one_placed : (order places : List ℕ) (count : ℕ) → count < length order → slice_index order count < length order
     → ArePlaced order places count → ArePlaced order (set places (slice_index order count) count) (count + 1)
@@ -26,7 +26,7 @@ one_placed order places count below within are =
     record {
       same_length = length-set places unit count ∙ are.same_length;
       placed = λ place h. elim (eqb_tells (slice_index order place) unit) [
-        | inl same ↦ let P : ℕ → Type 0 = λ u. IsPlaced order (set places unit count) u in subst P (sym same.1) here
+        | inl same ↦ let P : ℕ → Type 0 = λ u. HasItsPlace order (set places unit count) u in subst P (sym same.1) here
         | inr other ↦ elsewhere place h other.1
       ];
     }
@@ -37,11 +37,11 @@ one_placed order places count below within are =
     stored : slice_index (set places (slice_index order count) count) (slice_index order count) ≡ count
     stored = get_or-set_same places (slice_index order count) count 0 (omega (arith, are.same_length, within))
 
-    here : IsPlaced order (set places (slice_index order count) count) (slice_index order count)
+    here : HasItsPlace order (set places (slice_index order count) count) (slice_index order count)
     here = record { within = omega (arith, stored, below); own = ap (λ (p : ℕ). slice_index order p) stored }
 
     elsewhere : (place : ℕ) → place < count + 1 → (slice_index order place ≡ slice_index order count → ⊥)
-        → IsPlaced order (set places (slice_index order count) count) (slice_index order place)
+        → HasItsPlace order (set places (slice_index order count) count) (slice_index order place)
     elsewhere place h differs =
         let before : place < count = elim (cases_lt place count) [
           | inl less ↦ less

@@ -8,7 +8,7 @@ use Rattle.std.proofs.lemmas.Nat.Bits.{bit_at-zero}
 use Rattle.std.proofs.lemmas.Option.{slice_get_read, slice_get_within, get_or_from_slice_get}
 use Rattle.wg_pick.proofs.Flags.{same_read}
 use Rattle.wg_pick.specs.Order.{Waiting, IsBefore}
-use Rattle.wg_pick.specs.Row.{is_flagged, IsFlagSet, IsOrder, IsPlaced, IsRow, ComesFirst, IsFirstFrom}
+use Rattle.wg_pick.specs.Row.{is_flagged, IsFlagSet, IsOrder, HasItsPlace, IsRow, ComesFirst, IsFirstFrom}
 
 -- by unit, whether it waits
 abbrev pub waits_of : List ℕ → List ℕ → List Bool
@@ -30,14 +30,14 @@ none_flagged : (n place : ℕ) → is_flagged (replicate {A = ℕ} n 0) place �
 none_flagged n place = rw (zero_at n (place / 64), bit_at-zero (place % 64)) refl
 
 pub new_row : (depths order places : List ℕ) (words : ℕ) → length depths < 2 ^ 32 → IsOrder depths order → length places ≡ length order
-    → ((place : ℕ) → place < length order → IsPlaced order places (slice_index order place)) → length depths ≤ 64 * words → words < 2 ^ 32
+    → ((place : ℕ) → place < length order → HasItsPlace order places (slice_index order place)) → length depths ≤ 64 * words → words < 2 ^ 32
     → IsRow depths order places (replicate {A = ℕ} words 0)
 new_row depths order places words few ordered count placed room short =
     record {
       few = few;
       ordered = ordered;
       count = count;
-      placed = λ u h. let e = ordered.each u h in let P : ℕ → Type 0 = λ x. IsPlaced order places x in subst P e.2 (placed e.0 e.1);
+      placed = λ u h. let e = ordered.each u h in let P : ℕ → Type 0 = λ x. HasItsPlace order places x in subst P e.2 (placed e.0 e.1);
       room = omega (arith, room, ordered.count, length-replicate {A = ℕ} words 0);
       short = omega (arith, short, length-replicate {A = ℕ} words 0);
       flagged = λ place h. absurd (cc (none_flagged words place, h));

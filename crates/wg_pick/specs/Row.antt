@@ -31,7 +31,7 @@ pub record IsOrder (depths order : List ℕ) : Type 0 where
   pub sorted : (i j : ℕ) → i ≤ j → j < length order → ComesFirst depths (slice_index order i) (slice_index order j)
 
 -- the place of a unit in the order is its own
-pub record IsPlaced (order places : List ℕ) (u : ℕ) : Type 0 where
+pub record HasItsPlace (order places : List ℕ) (u : ℕ) : Type 0 where
   pub within : slice_index places u < length order
   pub own : slice_index order (slice_index places u) ≡ u
 
@@ -40,7 +40,7 @@ pub record IsRow (depths order places flags : List ℕ) : Type 0 where
   pub few : length depths < 2 ^ 32
   pub ordered : IsOrder depths order
   pub count : length places ≡ length order
-  pub placed : (u : ℕ) → u < length order → IsPlaced order places u
+  pub placed : (u : ℕ) → u < length order → HasItsPlace order places u
   pub room : length order ≤ 64 * length flags
   pub short : length flags < 2 ^ 32
   pub flagged : (place : ℕ) → is_flagged flags place ≡ true → (place < length order) × (slice_index places (slice_index order place) ≡ place)

@@ -3,7 +3,7 @@ ghost use Rattle.std.specs.Prelude.{◌≡◌, ℕ, ◌*◌, ◌^◌, ◌<◌, �
 ghost use Rattle.std.specs.Int.{div_ceil};
 ghost use Rattle.wg_machine.specs.declared.shape.Unit.{Unit as UnitOf};
 ghost use Rattle.wg_words.specs.Words.{is_bit_set};
-ghost use Rattle.wg_pick.specs.Row.{is_flagged, IsFirstFrom, IsOrder, IsPlaced, IsFlagSet};
+ghost use Rattle.wg_pick.specs.Row.{is_flagged, IsFirstFrom, IsOrder, HasItsPlace, IsFlagSet};
 
 use std::alloc::{AllocError, Global};
 use std::cmp::Reverse;
@@ -48,7 +48,7 @@ pub fn places_of(alloc: Global, order: &[u32]) -> Result<Vec<u32>, AllocError>
     requires few { length order.now < 2 ^ 32 }
     requires within { (place : ℕ) → place < length order.now → slice_index order.now place < length order.now }
     ensures count { IfOk result (λ places. length places.items ≡ length order.now) }
-    ensures placed { IfOk result (λ places. (place : ℕ) → place < length order.now → IsPlaced order.now places.items (slice_index order.now place)) }
+    ensures placed { IfOk result (λ places. (place : ℕ) → place < length order.now → HasItsPlace order.now places.items (slice_index order.now place)) }
 {
     let mut places = vec![in alloc; 0; order.len()]?;
     for (place, unit) in order.iter().enumerate() {

@@ -12,8 +12,8 @@ use Rattle.wg_machine.specs.Run.{times}
 use Rattle.wg_machine.specs.State.{State}
 use Rattle.wg_machine.specs.Units.{kind_at, words_at, shared_at}
 
--- A live record is of a unit of the shape, and has as many words as that. Its grid is that of its words at its birth,
--- which stay where the unit is not shared. Its groups are groups of its grid, each at most once.
+-- A live record is of a unit of the shape, and has as many words as that. Its grid is the one that its first words gave
+-- it, which are its words still where the unit is not shared. Its groups are groups of its grid, each at most once.
 pub record IsFitting (shape : Shape) (r : Live) : Type 0 where
   pub unit : r.unit < length shape.units
   pub words : length r.words ≡ words_at shape r.unit

@@ -1,22 +1,22 @@
 -- What a launch leaves in the bag.
 use Rattle.std.proofs.Common.{◌≡◌, ℕ, suc, ◌+◌, ◌<◌, ◌≤◌, Bool, true, false, cond, not, List, [], ◌∷◌, ◌++◌, length, refl, ap, sym, ◌∙◌, subst, arith, append_assoc, append-nil}
-use Rattle.std.specs.Prelude.{if◌then◌else◌, nat_lt, Some, None}
+use Rattle.std.specs.Prelude.{if◌then◌else◌, nat_lt, Option, Some, None}
 use Rattle.std.specs.List.{remove, position, position_or_len}
 use Rattle.std.proofs.lemmas.Bool.Decides.{nat_tests}
 use Rattle.wg_machine.specs.declared.launch.Live.{Live}
 use Rattle.wg_machine.specs.Grids.{without_group, same_group}
 use Rattle.wg_machine.specs.State.{kept}
-use Rattle.wg_machine.specs.Step.{left_after, is_among}
+use Rattle.wg_machine.specs.Step.{after_group, left_after, has_number}
 
-pub left_more : (numbers at : List ℕ) (done : List Live) (r : Live) (left new : List Live) → left ≡ left_after numbers at done → new ≡ left ++ (if is_among numbers r.number then kept (record r { groups = without_group at r.groups }) else r ∷ []) → new ≡ left_after numbers at (done ++ r ∷ [])
-left_more numbers at done r left new e n = n ∙ (ap (λ (l : List Live). l ++ (if is_among numbers r.number then kept (record r { groups = without_group at r.groups }) else r ∷ [])) e ∙ sym (left_append done))
+pub left_more : (numbers at : List ℕ) (words : Option (List ℕ)) (done : List Live) (r : Live) (left new : List Live) → left ≡ left_after numbers at words done → new ≡ left ++ (if has_number numbers r.number then kept (after_group at words r) else r ∷ []) → new ≡ left_after numbers at words (done ++ r ∷ [])
+left_more numbers at words done r left new e n = n ∙ (ap (λ (l : List Live). l ++ (if has_number numbers r.number then kept (after_group at words r) else r ∷ [])) e ∙ sym (left_append done))
   where
     part : Live → List Live
-    part x = if is_among numbers x.number then kept (record x { groups = without_group at x.groups }) else x ∷ []
+    part x = if has_number numbers x.number then kept (after_group at words x) else x ∷ []
 
-    left_append : (done : List Live) → left_after numbers at (done ++ r ∷ []) ≡ left_after numbers at done ++ (if is_among numbers r.number then kept (record r { groups = without_group at r.groups }) else r ∷ [])
+    left_append : (done : List Live) → left_after numbers at words (done ++ r ∷ []) ≡ left_after numbers at words done ++ (if has_number numbers r.number then kept (after_group at words r) else r ∷ [])
     left_append [] = append-nil _
-    left_append (x ∷ done) = ap (λ (l : List Live). (if is_among numbers x.number then kept (record x { groups = without_group at x.groups }) else x ∷ []) ++ l) (left_append done) ∙ sym (append_assoc (if is_among numbers x.number then kept (record x { groups = without_group at x.groups }) else x ∷ []) (left_after numbers at done) (if is_among numbers r.number then kept (record r { groups = without_group at r.groups }) else r ∷ []))
+    left_append (x ∷ done) = ap (λ (l : List Live). (if has_number numbers x.number then kept (after_group at words x) else x ∷ []) ++ l) (left_append done) ∙ sym (append_assoc (if has_number numbers x.number then kept (after_group at words x) else x ∷ []) (left_after numbers at words done) (if has_number numbers r.number then kept (after_group at words r) else r ∷ []))
 
 -- the first of the same groups is taken out
 pub without_is : (at : List ℕ) (gs : List (List ℕ)) → remove gs (position_or_len (λ (g : List ℕ). same_group g at) gs) ≡ without_group at gs

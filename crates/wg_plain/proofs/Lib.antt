@@ -1,8 +1,7 @@
 pub mod Found
 pub mod Grids
+pub mod Told
 pub mod Leaving
-pub mod Places
 pub mod Runs
-pub mod Shapes
 pub mod Stepping
 pub mod Words

@@ -1,4 +1,4 @@
-pub mod Fitting
+pub mod Sizes
 pub mod Named
 pub mod Relay
 pub mod RelayLaws

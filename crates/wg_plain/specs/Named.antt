@@ -1,24 +1,20 @@
 -- The launch that an entry of a journal names.
-use Rattle.std.specs.Prelude.{◌≡◌, ℕ, ◌==◌, ◌&&◌, ◌||◌, not, Bool, List, [], ◌∷◌, Option, Some, None}
+use Rattle.std.specs.Prelude.{◌≡◌, ℕ, ◌==◌, ◌&&◌, ◌||◌, not, Bool, List, Option, Some, None}
 use Rattle.std.specs.List.{list_all}
-use Rattle.wg_machine.specs.declared.shape.Kind.{Kind}
 use Rattle.wg_machine.specs.declared.shape.Shape.{Shape}
 use Rattle.wg_machine.specs.declared.launch.Entry.{Entry}
 use Rattle.wg_machine.specs.declared.launch.Launch.{Launch}
 use Rattle.wg_machine.specs.declared.launch.Live.{Live}
-use Rattle.wg_machine.specs.declared.launch.Record.{Record}
-use Rattle.wg_machine.specs.Grids.{grid_of, has_group}
-use Rattle.wg_machine.specs.Step.{Allows, is_among, numbers_of}
+use Rattle.wg_machine.specs.Grids.{has_group}
+use Rattle.wg_machine.specs.Step.{Allows, has_number, numbers_of}
 
--- each of the records with these numbers is of the unit, and has the group left
-abbrev pub are_ready : List ℕ → ℕ → List ℕ → List Live → Bool
-are_ready numbers unit at bag =
-    list_all (λ (r : Live). not (is_among numbers r.number) || ((r.unit == unit) && has_group r.groups at)) bag
+-- each of the records with these numbers passes
+abbrev pub all_taken : (Live → Bool) → List ℕ → List Live → Bool
+all_taken passes numbers bag = list_all (λ (r : Live). not (has_number numbers r.number) || passes r) bag
 
--- the grid of the first record
-abbrev pub first_grid : Kind → List Record → List ℕ
-first_grid kind [] = 1 ∷ 1 ∷ 1 ∷ []
-first_grid kind (r ∷ records) = grid_of kind r.words
+-- the record is of the unit, and has the group left
+abbrev pub is_ready : ℕ → List ℕ → Live → Bool
+is_ready unit at r = (r.unit == unit) && has_group r.groups at
 
 -- The launch is one that the bag allows, of the entry's unit, group and records.
 pub record IsNamed (shape : Shape) (bag : List Live) (e : Entry) (l : Launch) : Type 0 where

@@ -9,9 +9,10 @@ use Rattle.wg_machine.specs.declared.shape.Unit.{Unit}
 use Rattle.wg_machine.specs.declared.launch.Launch.{Launch}
 use Rattle.wg_machine.specs.Buffers.{Buffers, lengths_of, buffer_at, word_at}
 use Rattle.wg_machine.specs.GoodShape.{IsGoodShape, IsGoodUnit, IsGoodTarget, IsAlike}
-use Rattle.wg_machine.specs.LaunchMeaning.{KeepsBudgets, KeepsLaws, Arrives}
+use Rattle.wg_machine.specs.LaunchMeaning.{HasNewWords, KeepsBudgets, KeepsLaws, Arrives}
+use Rattle.wg_machine.specs.Units.{shared_at, words_at}
 use Rattle.wg_machine.specs.Unrolling.{IsFirst}
-use Rattle.wg_plain.specs.Relay.{relay_output, source, collector, field, relay_shape, relayed_by, relayed, relay_made}
+use Rattle.wg_plain.specs.Relay.{relay_output, source, collector, field, counter, relay_shape, relayed_by, aimed_at, counted_up, relayed, relay_made}
 
 -- the shape is good
 
@@ -19,7 +20,8 @@ node_is : (i : ℕ) (n : NodeName) → slice_get relay_shape.nodes i ≡ Some n 
 node_is zero n e = cc
 node_is (suc zero) n e = cc
 node_is (suc (suc zero)) n e = cc
-node_is (suc (suc (suc i))) n e = absurd (cc)
+node_is (suc (suc (suc zero))) n e = cc
+node_is (suc (suc (suc (suc i)))) n e = absurd (cc)
 
 nodes_differ : (i j : ℕ) (n : NodeName) → slice_get relay_shape.nodes i ≡ Some n → slice_get relay_shape.nodes j ≡ Some n → i ≡ j
 nodes_differ i j n p q = let a = node_is i n p in let b = node_is j n q in omega arith
@@ -28,7 +30,8 @@ unit_is : (i : ℕ) (u : Unit) → slice_get relay_shape.units i ≡ Some u → 
 unit_is zero u e = cc
 unit_is (suc zero) u e = cc
 unit_is (suc (suc zero)) u e = cc
-unit_is (suc (suc (suc i))) u e = absurd (cc)
+unit_is (suc (suc (suc zero))) u e = cc
+unit_is (suc (suc (suc (suc i)))) u e = absurd (cc)
 
 same_unit : (i j : ℕ) (a b : Unit) → slice_get relay_shape.units i ≡ Some a → slice_get relay_shape.units j ≡ Some b → a.node ≡ b.node → a ≡ b
 same_unit i j a b p q same =
@@ -37,16 +40,20 @@ same_unit i j a b p q same =
     cc
 
 is_alike : (u : Unit) → IsAlike u u
-is_alike u = record { words = refl; kind = refl; budgets = refl; bools = refl; outputs = refl }
+is_alike u = record { words = refl; kind = refl; budgets = refl; bools = refl; shared = refl; outputs = refl }
 
-first_at : (u : ℕ) → u < 3 → IsFirst relay_shape u
+first_at : (u : ℕ) → u < 4 → IsFirst relay_shape u
 first_at zero less v before = absurd (omega arith)
 first_at (suc zero) less zero before = λ e. absurd (omega (arith, e))
 first_at (suc zero) less (suc v) before = absurd (omega arith)
 first_at (suc (suc zero)) less zero before = λ e. absurd (omega (arith, e))
 first_at (suc (suc zero)) less (suc zero) before = λ e. absurd (omega (arith, e))
 first_at (suc (suc zero)) less (suc (suc v)) before = absurd (omega arith)
-first_at (suc (suc (suc u))) less v before = absurd (omega arith)
+first_at (suc (suc (suc zero))) less zero before = λ e. absurd (omega (arith, e))
+first_at (suc (suc (suc zero))) less (suc zero) before = λ e. absurd (omega (arith, e))
+first_at (suc (suc (suc zero))) less (suc (suc zero)) before = λ e. absurd (omega (arith, e))
+first_at (suc (suc (suc zero))) less (suc (suc (suc v))) before = absurd (omega arith)
+first_at (suc (suc (suc (suc u)))) less v before = absurd (omega arith)
 
 good_target : IsGoodTarget relay_shape source relay_output 1
 good_target = record { target = collector; there = refl; deeper = omega arith; words = refl; place = inr (λ e. absurd (omega (arith, e)), first_at 1 (omega arith)) }
@@ -63,6 +70,7 @@ good_source = record {
   few_outputs = omega arith;
   outputs = (record { budget = omega arith; words = omega arith; count = record { low = omega arith; high = omega arith }; elements = (good_target, tt) }, tt);
   bools = tt;
+  shared = λ no. absurd (cc);
 }
 
 good_collector : IsGoodUnit relay_shape 1 collector
@@ -77,6 +85,7 @@ good_collector = record {
   few_outputs = omega arith;
   outputs = tt;
   bools = tt;
+  shared = λ no. absurd (cc);
 }
 
 good_field : IsGoodUnit relay_shape 2 field
@@ -100,6 +109,27 @@ good_field = record {
   few_outputs = omega arith;
   outputs = tt;
   bools = tt;
+  shared = λ no. absurd (cc);
+}
+
+good_counter : IsGoodUnit relay_shape 3 counter
+good_counter = record {
+  depth = refl;
+  chain = omega arith;
+  words = omega arith;
+  stride = refl;
+  kind = record {
+    x_fits = record { low = omega arith; high = omega arith };
+    y_fits = record { low = omega arith; high = omega arith };
+    z_fits = record { low = omega arith; high = omega arith };
+    product = omega arith;
+  };
+  entry = λ _. first_at 3 (omega arith);
+  budgets = tt;
+  few_outputs = omega arith;
+  outputs = tt;
+  bools = tt;
+  shared = λ _. refl;
 }
 
 some_unit : (a b : Unit) → Some a ≡ Some b → a ≡ b
@@ -109,7 +139,8 @@ good_unit : (k : ℕ) (u : Unit) → slice_get relay_shape.units k ≡ Some u �
 good_unit zero u e = subst (λ (x : Unit). IsGoodUnit relay_shape 0 x) (some_unit source u e) good_source
 good_unit (suc zero) u e = subst (λ (x : Unit). IsGoodUnit relay_shape 1 x) (some_unit collector u e) good_collector
 good_unit (suc (suc zero)) u e = subst (λ (x : Unit). IsGoodUnit relay_shape 2 x) (some_unit field u e) good_field
-good_unit (suc (suc (suc k))) u e = absurd (cc)
+good_unit (suc (suc (suc zero))) u e = subst (λ (x : Unit). IsGoodUnit relay_shape 3 x) (some_unit counter u e) good_counter
+good_unit (suc (suc (suc (suc k)))) u e = absurd (cc)
 
 one_buffer : (i : ℕ) (name : List ℕ) → slice_get relay_shape.buffers i ≡ Some name → i ≡ 0
 one_buffer zero name e = refl
@@ -118,9 +149,9 @@ one_buffer (suc i) name e = absurd (cc)
 pub relay_good : IsGoodShape relay_shape
 relay_good = record {
   few_nodes = omega arith;
-  node_names = (refl, (refl, (refl, tt)));
+  node_names = (refl, (refl, (refl, (refl, tt))));
   nodes_differ = nodes_differ;
-  unrolling = record { depths = 0 ∷ 0 ∷ 0 ∷ []; count = refl; few = (omega arith, (omega arith, (omega arith, tt))); units = refl };
+  unrolling = record { depths = 0 ∷ 0 ∷ 0 ∷ 0 ∷ []; count = refl; few = (omega arith, (omega arith, (omega arith, (omega arith, tt)))); units = refl };
   units = good_unit;
   alike = λ i j a b p q same. subst (λ (x : Unit). IsAlike a x) (same_unit i j a b p q same) (is_alike a);
   few_buffers = omega arith;
@@ -161,13 +192,23 @@ arrives unit = choice (unit == 0)
     choice true = (record { unit = omega arith; words = refl }, tt)
     choice false = tt
 
-keeps_laws : (l : Launch) (m : Buffers) (turns : ℕ) → 1 ≤ turns → KeepsLaws relay_shape l m turns (relayed l.unit m)
+new_words : (unit word : ℕ) → HasNewWords (shared_at relay_shape unit) (words_at relay_shape unit) (if unit == 3 then Some (word ∷ []) else None)
+new_words zero word = tt
+new_words (suc zero) word = tt
+new_words (suc (suc zero)) word = tt
+new_words (suc (suc (suc zero))) word = refl
+new_words (suc (suc (suc (suc u)))) word =
+    let e : (suc (suc (suc (suc u))) == 3) ≡ false = grind (arith, nat_tests) in
+    subst (λ (b : Bool). HasNewWords false 0 (if b then Some (word ∷ []) else None)) (sym e) tt
+
+keeps_laws : (l : Launch) (m : Buffers) (turns : ℕ) → 1 ≤ turns → KeepsLaws relay_shape l m turns (relayed l m)
 keeps_laws l m turns some = record {
   turns_few = some;
-  denied_few = choice (word_at m 0 0 == 0);
-  lengths = lengths_set m _ (length-set (buffer_at m 0) 0 _);
+  denied_few = choice (word_at m 0 (aimed_at l.unit) == 0);
+  lengths = lengths_set m _ (length-set (buffer_at m 0) (aimed_at l.unit) _);
   arrive = arrives l.unit;
   budgets = λ u e. keeps_budgets l.unit u e;
+  shared = new_words l.unit (counted_up l);
 }
   where
     choice : (b : Bool) → (if b then 1 else 0) < 2 ^ 32
@@ -177,6 +218,6 @@ keeps_laws l m turns some = record {
 pub relay_lawful : (l : Launch) (m : Buffers) (turns : ℕ) → IfSome (relay_made l m turns) (KeepsLaws relay_shape l m turns)
 relay_lawful l m turns = choice (turns == 0) refl
   where
-    choice : (b : Bool) → (turns == 0) ≡ b → IfSome (if b then None else Some (relayed l.unit m)) (KeepsLaws relay_shape l m turns)
+    choice : (b : Bool) → (turns == 0) ≡ b → IfSome (if b then None else Some (relayed l m)) (KeepsLaws relay_shape l m turns)
     choice true h = tt
     choice false h = let some : 1 ≤ turns = grind (arith, nat_tests) in keeps_laws l m turns some

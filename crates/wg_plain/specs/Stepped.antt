@@ -1,24 +1,25 @@
 -- What a step of the plain program comes to.
 use Rattle.std.specs.Prelude.{◌≡◌, ℕ, ◌+◌, ◌≤◌, ◌^◌, max, length, Option, Some, None}
-use Rattle.wg_words.specs.Each.{Each}
+use Rattle.wg_words.specs.declared.limits.TheConstants.{MOST_SENT}
 use Rattle.wg_machine.specs.declared.shape.Shape.{Shape}
 use Rattle.wg_machine.specs.declared.launch.Entry.{Entry}
 use Rattle.wg_machine.specs.declared.launch.Launch.{Launch}
 use Rattle.wg_machine.specs.Buffers.{Buffers}
 use Rattle.wg_machine.specs.Bytes.{live_bytes}
+use Rattle.wg_machine.specs.Fitting.{BagFits}
 use Rattle.wg_machine.specs.LaunchMeaning.{Meaning, KeepsLaws, outcome_of}
 use Rattle.wg_machine.specs.State.{State}
 use Rattle.wg_machine.specs.Step.{Passed, Step}
 use Rattle.wg_plain.specs.declared.steps.Ran.{Ran}
 use Rattle.wg_plain.specs.declared.steps.Rest.{Rest}
-use Rattle.wg_plain.specs.Fitting.{IsFitting, AreShort}
+use Rattle.wg_plain.specs.Sizes.{AreShort}
 
 abbrev pub state_of : Rest → State
 state_of rest = record { bag = rest.bag; next = rest.next; buffers = rest.buffers }
 
 -- what holds of what each run leaves
 pub record IsSound (shape : Shape) (rest : Rest) : Type 0 where
-  pub fitting : Each (IsFitting shape) rest.bag
+  pub fitting : BagFits shape rest.bag
   pub short : AreShort rest.buffers
   pub few : length rest.bag ≤ rest.next
 
@@ -34,7 +35,7 @@ pub record Advances (shape : Shape) (handed : ℕ) (old new : Rest) (p : Passed)
   pub denied : new.denied ≡ old.denied + p.outcome.denied
   pub peak : new.peak ≡ max old.peak (live_bytes shape handed p.after)
   pub sound : IsSound shape new
-  pub next_few : new.next ≤ old.next + 16384
+  pub next_few : new.next ≤ old.next + MOST_SENT
   pub denied_few : new.denied ≤ old.denied + 2 ^ 32
 
 -- the step of an entry, or that it is none

@@ -1,15 +1,17 @@
-ghost use Rattle.std.specs.Prelude.{◌≡◌, ◌↔◌, IsTrue, IfOk, map};
-ghost use Rattle.wg_words.specs.Each.{Each};
+ghost use Rattle.std.specs.Prelude.{◌≡◌, ◌↔◌, ◌==◌, IsTrue, IfOk, length, map};
+ghost use Rattle.wg_machine.specs.Fitting.{BagFits};
 ghost use Rattle.wg_machine.specs.GoodShape.{IsGoodShape};
 ghost use Rattle.wg_machine.specs.Grids.{has_group};
-ghost use Rattle.wg_machine.specs.Step.{is_among, numbers_of, record_of, taken};
-ghost use Rattle.wg_machine.specs.Units.{kind_at, most_inputs};
-ghost use Rattle.wg_plain.specs.Fitting.{IsFitting};
-ghost use Rattle.wg_plain.specs.Named.{are_ready, first_grid, FoundIs};
+ghost use Rattle.wg_machine.specs.Step.{has_number, first_grid, is_last, numbers_of, record_of, taken};
+ghost use Rattle.wg_machine.specs.Units.{kind_at, most_inputs, shared_at};
+ghost use Rattle.wg_plain.specs.Named.{all_taken, is_ready, FoundIs};
 
-use crate::grid::{grid_for, is_same, place};
+use crate::grid::{is_same, place};
 use std::alloc::{AllocError, Global};
-use wg_machine::{Entry, Kind, Launch, Live, Record, Records, Shape};
+use wg_machine::{
+    Entry, Kind, Launch, Live, Record, Records, Shape, allowed_is_launch_in, launch_in_is_allowed,
+    live_groups_lie_in_grids,
+};
 use wg_words::TryCopy;
 
 /// The kind of a unit, thread launch where the shape has no such unit.
@@ -19,6 +21,15 @@ pub fn kind_of(shape: &Shape, unit: u32) -> Kind
     match shape.units.get(unit as usize) {
         Some(node) => node.kind,
         None => Kind::Thread,
+    }
+}
+
+fn is_shared(shape: &Shape, unit: u32) -> bool
+    ensures { result ≡ shared_at shape.now unit }
+{
+    match shape.units.get(unit as usize) {
+        Some(node) => node.shared,
+        None => false,
     }
 }
 
@@ -33,7 +44,7 @@ fn most_of(kind: Kind) -> u32
 
 /// Whether a number is among others.
 pub fn is_listed(numbers: &[u64], number: u64) -> bool
-    ensures { result ≡ is_among numbers.now number }
+    ensures { result ≡ has_number numbers.now number }
 {
     numbers.iter().any(|n| *n == number)
 }
@@ -45,12 +56,24 @@ fn stands_in(groups: &[[u32; 3]], at: &[u32; 3]) -> bool
 }
 
 fn all_ready(bag: &[Live], numbers: &[u64], unit: u32, at: &[u32; 3]) -> bool
-    ensures { result ≡ are_ready numbers.now unit at.now bag.now }
+    ensures { result ≡ all_taken (is_ready unit at.now) numbers.now bag.now }
 {
     bag.iter().all(|live| {
         !is_listed(numbers, live.number)
             || (live.unit == unit && stands_in(live.groups.as_slice(), at))
     })
+}
+
+fn all_have_one_left(bag: &[Live], numbers: &[u64]) -> bool
+    ensures { result ≡ all_taken (λ r. length r.groups == 1) numbers.now bag.now }
+{
+    bag.iter().all(|live| !is_listed(numbers, live.number) || live.groups.len() == 1)
+}
+
+fn is_last_launch(shape: &Shape, unit: u32, bag: &[Live], numbers: &[u64]) -> bool
+    ensures { result ≡ is_last shape.now unit (taken numbers.now bag.now) }
+{
+    is_shared(shape, unit) && all_have_one_left(bag, numbers)
 }
 
 fn record_in(alloc: Global, live: &Live) -> Result<Record, AllocError>
@@ -88,13 +111,15 @@ fn are_numbers(records: &[Record], numbers: &[u64]) -> bool
     true
 }
 
-fn grid_of_first(kind: Kind, records: &[Record]) -> [u32; 3]
-    ensures { result ≡ first_grid kind records.now }
+fn grid_of_first(bag: &[Live], numbers: &[u64]) -> [u32; 3]
+    ensures { result ≡ first_grid (taken numbers.now bag.now) }
 {
-    match records.first() {
-        Some(first) => grid_for(kind, first.words.as_slice()),
-        None => [1, 1, 1],
+    for live in bag {
+        if is_listed(numbers, live.number) {
+            return live.grid;
+        }
     }
+    [1, 1, 1]
 }
 
 /// The launch that an entry names, if the bag allows it.
@@ -105,15 +130,17 @@ pub fn find(
     entry: &Entry,
 ) -> Result<Option<Launch>, AllocError>
     requires good { IsGoodShape shape.now }
-    requires fitting { Each (IsFitting shape.now) bag.now }
+    requires fitting { BagFits shape.now bag.now }
     ensures { IfOk result (FoundIs shape.now bag.now entry.now) }
 {
-    let kind = kind_of(shape, entry.unit);
+    allowed_is_launch_in();
+    launch_in_is_allowed();
+    live_groups_lie_in_grids();
     let numbers = entry.inputs.as_slice();
     if numbers.is_empty() {
         return Ok(None);
     }
-    if numbers.len() > most_of(kind) as usize {
+    if numbers.len() > most_of(kind_of(shape, entry.unit)) as usize {
         return Ok(None);
     }
     if !all_ready(bag, numbers, entry.unit, &entry.at) {
@@ -123,13 +150,14 @@ pub fn find(
     if !are_numbers(records.as_slice(), numbers) {
         return Ok(None);
     }
-    let grid = grid_of_first(kind, records.as_slice());
+    let grid = grid_of_first(bag, numbers);
     let group = place(&grid, &entry.at);
+    let last = is_last_launch(shape, entry.unit, bag, numbers);
     Ok(Some(Launch {
         unit: entry.unit,
         records,
         group,
         grid,
-        last: false,
+        last,
     }))
 }

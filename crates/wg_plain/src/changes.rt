@@ -1,16 +1,17 @@
-ghost use Rattle.std.specs.Prelude.{◌≡◌, ◌≤◌, ◌<◌, ◌^◌, ◌+◌, ◌++◌, ◌∷◌, [], ℕ, IfOk, IfSome, OnOk, length, if◌then◌else◌};
+ghost use Rattle.std.specs.Prelude.{◌≡◌, ◌≤◌, ◌<◌, ◌^◌, ◌+◌, ◌++◌, ◌∷◌, [], ℕ, IfOk, IfSome, OnOk, length, if◌then◌else◌, unwrap_or};
 ghost use Rattle.std.specs.List.{flat_map, position};
+ghost use Rattle.wg_words.specs.declared.limits.TheConstants.{MOST_STRIDE};
 ghost use Rattle.wg_machine.specs.Grids.{same_group, without_group};
 ghost use Rattle.wg_machine.specs.State.{born, kept, live_of};
-ghost use Rattle.wg_machine.specs.Step.{left_after};
+ghost use Rattle.wg_machine.specs.Step.{after_group, left_after};
 ghost use Rattle.wg_machine.specs.Units.{stride_at};
-ghost use Rattle.wg_plain.specs.Fitting.{bytes_of_bag};
+ghost use Rattle.wg_plain.specs.Sizes.{bytes_of_bag};
 
 use crate::bag::{is_listed, kind_of};
 use crate::grid::{grid_for, groups_for, is_same};
 use std::alloc::{AllocError, Global};
 use wg_machine::{Bag, Groups, Live, Sent, Shape, Unit};
-use wg_words::TryCopy;
+use wg_words::{TryCopy, Words};
 
 fn place_in(groups: &[[u32; 3]], at: &[u32; 3]) -> Option<usize>
     ensures first { result ≡ position (λ g. same_group g at.now) groups.now }
@@ -39,8 +40,25 @@ fn push_kept(bag: &mut Bag, live: Live) -> Result<(), AllocError>
     bag.push(live)
 }
 
-fn push_left(bag: &mut Bag, live: Live, ran: bool, at: &[u32; 3]) -> Result<(), AllocError>
-    ensures { OnOk result (bag.new ≡ bag.old ++ (if ran then kept (record live { groups = without_group at.now live.groups }) else live ∷ [])) }
+/// The new words of a record, or its own where there are no new ones.
+fn words_after(alloc: Global, words: Words, new: &Option<Words>) -> Result<Words, AllocError>
+    ensures { IfOk result (λ after. after ≡ unwrap_or new.now words) }
+{
+    match new {
+        Some(new) => new.copy(alloc),
+        None => Ok(words),
+    }
+}
+
+fn push_left(
+    alloc: Global,
+    bag: &mut Bag,
+    live: Live,
+    ran: bool,
+    at: &[u32; 3],
+    new: &Option<Words>,
+) -> Result<(), AllocError>
+    ensures { OnOk result (bag.new ≡ bag.old ++ (if ran then kept (after_group at.now new.now live) else live ∷ [])) }
 {
     if !ran {
         return bag.push(live);
@@ -49,30 +67,33 @@ fn push_left(bag: &mut Bag, live: Live, ran: bool, at: &[u32; 3]) -> Result<(), 
         number,
         unit,
         words,
+        grid,
         groups,
     } = live;
     let left = Live {
         number,
         unit,
-        words,
+        words: words_after(alloc, words, new)?,
+        grid,
         groups: without(groups, at),
     };
     push_kept(bag, left)
 }
 
-/// The bag after the records with these numbers have run a group.
+/// The bag after the records with these numbers have run a group, with the new words that it left them.
 pub fn after_launch(
     alloc: Global,
     bag: Bag,
     numbers: &[u64],
     at: &[u32; 3],
+    new: &Option<Words>,
 ) -> Result<Bag, AllocError>
-    ensures { IfOk result (λ left. left ≡ left_after numbers.now at.now bag) }
+    ensures { IfOk result (λ left. left ≡ left_after numbers.now at.now new.now bag) }
 {
     let mut left = Bag::new(alloc);
     for live in bag.into_vec() {
         let ran = is_listed(numbers, live.number);
-        push_left(&mut left, live, ran, at)?;
+        push_left(alloc, &mut left, live, ran, at, new)?;
     }
     Ok(left)
 }
@@ -91,6 +112,7 @@ fn push_new(
         number,
         unit: sent.unit,
         words: sent.words.copy(alloc)?,
+        grid,
         groups: groups_for(alloc, &grid)?,
     };
     push_kept(bag, live)
@@ -132,7 +154,7 @@ fn stride_of(shape: &Shape, unit: u32) -> u32
 
 /// The bytes of the live records that were born of a launch: `handed` is the number of entry records.
 pub fn bytes_of(shape: &Shape, bag: &[Live], handed: u64) -> u64
-    requires strides { (u : ℕ) → stride_at shape.now u ≤ 8192 }
+    requires strides { (u : ℕ) → stride_at shape.now u ≤ MOST_STRIDE }
     requires few { length bag.now < 2 ^ 50 }
     ensures { result ≡ bytes_of_bag shape.now handed bag.now }
 {

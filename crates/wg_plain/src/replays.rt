@@ -2,12 +2,12 @@ ghost use Rattle.std.specs.Prelude.{◌<◌, ◌^◌, IfOk, length};
 ghost use Rattle.wg_words.specs.Each.{Each};
 ghost use Rattle.wg_machine.specs.GoodShape.{IsGoodShape};
 ghost use Rattle.wg_machine.specs.LaunchMeaning.{Arrives};
-ghost use Rattle.wg_plain.specs.Fitting.{AreShort};
+ghost use Rattle.wg_plain.specs.Sizes.{AreShort};
 ghost use Rattle.wg_plain.specs.Rests.{IfRun, IfNoStep, IsNoRun, Leaves, StopsAt};
 
 use crate::steps::{Rest, started, step};
 use std::alloc::{AllocError, Global};
-use wg_machine::{Bodies, Entry, Sent};
+use wg_machine::{Bodies, Entry, Sent, allowed_is_launch_in};
 use wg_words::Words;
 
 /// What a list of entries is: a run, with what it leaves, or none, with the first entry that is no step after the
@@ -38,6 +38,7 @@ pub fn replay<B: Bodies>(
     ensures stops { IfOk result (IfNoStep (StopsAt (B.graph bodies.now) (B.made bodies.now) turns script.now buffers.now entries.now)) }
     ensures no_run { IfOk result (IfNoStep (λ _. IsNoRun (B.graph bodies.now) (B.made bodies.now) turns script.now buffers.now entries.now)) }
 {
+    allowed_is_launch_in();
     let handed = script.len() as u64;
     let mut rest = started(alloc, bodies.shape(), script, buffers)?;
     for (i, entry) in entries.iter().enumerate() {

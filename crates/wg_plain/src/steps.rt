@@ -1,20 +1,24 @@
 ghost use Rattle.std.specs.Prelude.{◌≡◌, ◌↔◌, ◌≤◌, ◌<◌, ◌^◌, ◌+◌, ◌++◌, ◌==◌, ℕ, max, length, IsTrue, IfOk, if◌then◌else◌};
 ghost use Rattle.std.specs.List.{flat_map};
 ghost use Rattle.wg_words.specs.Each.{Each};
+ghost use Rattle.wg_words.specs.declared.limits.TheConstants.{MOST_SENT, MOST_STRIDE};
 ghost use Rattle.wg_machine.specs.Bytes.{live_bytes};
 ghost use Rattle.wg_machine.specs.GoodShape.{IsGoodShape};
 ghost use Rattle.wg_machine.specs.LaunchMeaning.{FitsShape, Arrives};
 ghost use Rattle.wg_machine.specs.State.{start, born, kept};
 ghost use Rattle.wg_machine.specs.Step.{left_after};
 ghost use Rattle.wg_machine.specs.Units.{stride_at};
-ghost use Rattle.wg_plain.specs.Fitting.{AreShort, bytes_of_bag};
+ghost use Rattle.wg_plain.specs.Sizes.{AreShort, bytes_of_bag};
 ghost use Rattle.wg_plain.specs.Stepped.{IsSound, RanIs, Steps, state_of};
 
 use crate::bag::find;
 use crate::changes::{after_launch, arrive, bytes_of};
 use crate::traced::{Traced, copies};
 use std::alloc::{AllocError, Global};
-use wg_machine::{Bag, Bodies, Entry, Halt, Launch, Made, Sent, Shape};
+use wg_machine::{
+    Bag, Bodies, Entry, Halt, Launch, Made, Sent, Shape, allowed_is_launch_in,
+    allowed_launches_fit, few_are_sent, runs_fit, steps_fit, strides_are_small,
+};
 use wg_words::{WordLists, Words};
 
 /// What a run leaves: the live records with the groups that have not run, the number of the next record, the
@@ -73,11 +77,11 @@ fn commit(
     entry: &Entry,
     ran: Ran,
 ) -> Result<Rest, AllocError>
-    requires strides { (u : ℕ) → stride_at shape.now u ≤ 8192 }
+    requires strides { (u : ℕ) → stride_at shape.now u ≤ MOST_STRIDE }
     requires records { length rest.bag + length ran.made.sent < 2 ^ 50 }
     requires next { rest.next + length ran.made.sent < 2 ^ 64 }
     requires denied { rest.denied + ran.made.denied < 2 ^ 64 }
-    ensures bag { IfOk result (λ new. new.bag ≡ left_after entry.now.inputs entry.now.at rest.bag ++ flat_map kept (born shape.now rest.next ran.made.sent)) }
+    ensures bag { IfOk result (λ new. new.bag ≡ left_after entry.now.inputs entry.now.at ran.made.shared rest.bag ++ flat_map kept (born shape.now rest.next ran.made.sent)) }
     ensures next { IfOk result (λ new. new.next ≡ rest.next + length ran.made.sent) }
     ensures buffers { IfOk result (λ new. new.buffers ≡ ran.buffers) }
     ensures denied { IfOk result (λ new. new.denied ≡ rest.denied + ran.made.denied) }
@@ -90,7 +94,13 @@ fn commit(
         denied,
         peak,
     } = rest;
-    let mut bag = after_launch(alloc, bag, entry.inputs.as_slice(), &entry.at)?;
+    let mut bag = after_launch(
+        alloc,
+        bag,
+        entry.inputs.as_slice(),
+        &entry.at,
+        &ran.made.shared,
+    )?;
     arrive(alloc, shape, &mut bag, next, ran.made.sent.as_slice())?;
     let bytes = bytes_of(shape, bag.as_slice(), handed);
     Ok(Rest {
@@ -118,6 +128,8 @@ pub fn started(
     ensures peak { IfOk result (λ rest. rest.peak ≡ live_bytes shape.now (length script.now) (state_of rest)) }
     ensures sound { IfOk result (IsSound shape.now) }
 {
+    runs_fit();
+    strides_are_small();
     let handed = script.len() as u64;
     let mut bag = Bag::new(alloc);
     arrive(alloc, shape, &mut bag, 0, script)?;
@@ -142,10 +154,15 @@ pub fn step<B: Bodies>(
 ) -> Result<Option<Rest>, AllocError>
     requires good { IsGoodShape (B.graph bodies.now) }
     requires sound { IsSound (B.graph bodies.now) rest }
-    requires next { rest.next + 16384 < 2 ^ 50 }
+    requires next { rest.next + MOST_SENT < 2 ^ 50 }
     requires denied { rest.denied + 2 ^ 32 < 2 ^ 64 }
     ensures { IfOk result (Steps (B.graph bodies.now) (B.made bodies.now) turns handed rest entry.now) }
 {
+    allowed_launches_fit();
+    few_are_sent();
+    steps_fit();
+    strides_are_small();
+    allowed_is_launch_in();
     let Some(launch) = find(alloc, bodies.shape(), rest.bag.as_slice(), entry)? else {
         return Ok(None);
     };

@@ -2,7 +2,7 @@ ghost use Rattle.std.specs.Prelude.{◌≡◌, ◌++◌, ◌∷◌, [], slice_se
 ghost use Rattle.std.specs.List.{list_all};
 ghost use Rattle.wg_machine.specs.Agreement.{has_seen};
 ghost use Rattle.wg_machine.specs.Buffers.{word_at, with_word, written, all_written, exchanged, signed_rank};
-ghost use Rattle.wg_plain.specs.Fitting.{AreShort};
+ghost use Rattle.wg_plain.specs.Sizes.{AreShort};
 
 use std::alloc::{AllocError, Global};
 use std::mem;

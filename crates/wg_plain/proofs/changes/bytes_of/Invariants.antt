@@ -1,5 +1,5 @@
 use Rattle.std.proofs.Common.{◌≡◌, ◌*◌, ◌≤◌, take}
-use Rattle.wg_plain.specs.Fitting.{bytes_of_bag}
+use Rattle.wg_plain.specs.Sizes.{bytes_of_bag}
 use Rattle.wg_plain.proofs.changes.bytes_of.Given as goal
 
 abbrev pub invariant-loop-live : goal.invariant-loop-live

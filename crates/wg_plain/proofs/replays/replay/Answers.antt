@@ -23,7 +23,7 @@ returns-in_default-clause-no_run g c =
     let before = c.loop-i.invariant in
     let less : i < length entries = c.loop-i-test.true in
     let none = subst (λ (r : Option Rest). Steps G made turns (length c.args.script.now) c.loop-i.rest e r) c.in_default.is c.in_ok-after.ensures in
-    stops G made turns s entries i before.trail mid less before.run
+    stops c.allowed_is_launch_in.ensures G made turns s entries i before.trail mid less before.run
     (λ f p got step. none p (subst (λ (x : Entry). Step G made turns mid x p) (got_here entries i e f less c.index-entries-i.is got) step))
 
 pub loop-i-preserved : goal.loop-i-preserved

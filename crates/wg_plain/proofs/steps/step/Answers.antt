@@ -10,12 +10,11 @@ use Rattle.wg_machine.specs.State.{born, kept}
 use Rattle.wg_machine.specs.Step.{left_after}
 use Rattle.wg_machine.specs.Units.{stride_at}
 use Rattle.wg_plain.specs.declared.steps.Ran.{Ran}
-use Rattle.wg_plain.specs.Fitting.{bytes_of_bag}
+use Rattle.wg_plain.specs.Sizes.{bytes_of_bag}
 use Rattle.wg_plain.specs.Named.{IsNamed, FoundIs}
 use Rattle.wg_plain.specs.Stepped.{RanIs, state_of}
 use Rattle.wg_plain.proofs.Runs.{spent_step, step_outs}
-use Rattle.wg_plain.proofs.Shapes.{small_stride}
-use Rattle.wg_plain.proofs.Stepping.{named_fits, sent_few, step_made}
+use Rattle.wg_plain.proofs.Stepping.{step_made}
 use Rattle.wg_plain.proofs.steps.step.Goals as goal
 
 pub run-requires-clause-fits : goal.run-requires-clause-fits
@@ -29,7 +28,7 @@ run-requires-clause-fits g c =
     subst (λ (o : Option Launch). FoundIs G old.bag e o) c.in-Some.is
     (subst (λ (b : List Live). FoundIs G b e c.in_ok-launch.field-0) c.as_slice.ensures
     (subst (λ (s : Shape). FoundIs s c.as_slice.result.now e c.in_ok-launch.field-0) c.shape.ensures c.in_ok-launch.ensures)) in
-    named_fits G old.bag e l c.requires.good named c.requires.sound.fitting
+    c.allowed_launches_fit.ensures G old.bag l e.at c.requires.good c.requires.sound.fitting named.allowed
 
 pub returns-in_default-2 : goal.returns-in_default-2
 returns-in_default-2 g c =
@@ -45,7 +44,7 @@ returns-in_default-2 g c =
     let ran : RanIs G made c.args.turns l old.buffers (None) =
     subst (λ (r : Option Ran). RanIs G made c.args.turns l old.buffers r) c.in_default-2.is
     (subst (λ (m : Buffers). RanIs G made c.args.turns l m c.in_ok-ran.field-0) c.as_slice-2.ensures c.in_ok-ran.ensures) in
-    spent_step G made c.args.turns (state_of old) e l named ran
+    spent_step c.allowed_is_launch_in.ensures G made c.args.turns (state_of old) e l named ran
 
 pub returns-then-not-has_outs : goal.returns-then-not-has_outs
 returns-then-not-has_outs g c = λ p step.
@@ -63,14 +62,14 @@ returns-then-not-has_outs g c = λ p step.
     (subst (λ (m : Buffers). RanIs G made c.args.turns l m c.in_ok-ran.field-0) c.as_slice-2.ensures c.in_ok-ran.ensures) in
     let o : Outcome = outcome_of c.in-Some-2.ran.made c.in-Some-2.ran.buffers in
     let n : c.len.result ≡ length o.sent = c.len.ensures in
-    let outs = step_outs G made c.args.turns (state_of old) e l o p named ran.0 step in
+    let outs = step_outs c.allowed_is_launch_in.ensures G made c.args.turns (state_of old) e l o p named ran.0 step in
     let holds : c.has_outs.result ≡ true = c.has_outs.ensures.1 (outs.0 ∙ ap (λ (k : ℕ). if k == 0 then 0 else old.next) (sym n), outs.1 ∙ sym n) in
     let no : c.has_outs.result ≡ false = c.if-not-has_outs.true in
     absurd (cc))
 
 pub commit-requires-clause-strides : goal.commit-requires-clause-strides
 commit-requires-clause-strides g c = λ u.
-    (let h = small_stride (g.B.Bodies.graph c.args.bodies.now) c.requires.good u in
+    (let h = c.strides_are_small.ensures (g.B.Bodies.graph c.args.bodies.now) u c.requires.good in
     subst (λ (s : Shape). stride_at s u ≤ 8192) (sym c.shape-2.ensures) h)
 
 pub commit-requires-clause-records : goal.commit-requires-clause-records
@@ -89,8 +88,8 @@ commit-requires-clause-records g c =
     (subst (λ (m : Buffers). RanIs G made c.args.turns l m c.in_ok-ran.field-0) c.as_slice-2.ensures c.in_ok-ran.ensures) in
     let o : Outcome = outcome_of c.in-Some-2.ran.made c.in-Some-2.ran.buffers in
     let n : c.len.result ≡ length o.sent = c.len.ensures in
-    let fits = named_fits G old.bag e l c.requires.good named c.requires.sound.fitting in
-    let few = sent_few G old.bag e l old.buffers c.args.turns o c.requires.good fits ran.1 in
+    let fits = c.allowed_launches_fit.ensures G old.bag l e.at c.requires.good c.requires.sound.fitting named.allowed in
+    let few = c.few_are_sent.ensures G l old.buffers c.args.turns o c.requires.good fits ran.1 in
     let kept_few = c.requires.sound.few in
     let room = c.requires.next in
     omega arith
@@ -114,7 +113,9 @@ returns g c =
     let outs = c.has_outs.ensures.0 c.if-not-has_outs.false in
     let new = c.in_ok-after.after in
     let did = c.in_ok-after.ensures in
-    step_made G made c.args.turns c.args.handed old new e l o c.requires.good named ran.0 ran.1
+    let fits = c.allowed_launches_fit.ensures G old.bag l e.at c.requires.good c.requires.sound.fitting named.allowed in
+    let few = c.few_are_sent.ensures G l old.buffers c.args.turns o c.requires.good fits ran.1 in
+    step_made c.steps_fit.ensures G made c.args.turns c.args.handed old new e l o c.requires.good (λ l m t fits. g.met.B.Bodies.lawful c.args.bodies.now l m t c.requires.good fits) named few ran.0 ran.1
     (outs.0 ∙ ap (λ (k : ℕ). if k == 0 then 0 else old.next) n) (outs.1 ∙ n)
-    (did.bag ∙ ap (λ (s : Shape). left_after e.inputs e.at old.bag ++ flat_map kept (born s old.next o.sent)) c.shape-2.ensures) did.next did.buffers did.denied
+    (did.bag ∙ ap (λ (s : Shape). left_after e.inputs e.at o.shared old.bag ++ flat_map kept (born s old.next o.sent)) c.shape-2.ensures) did.next did.buffers did.denied
     (did.peak ∙ ap (λ (s : Shape). max old.peak (bytes_of_bag s c.args.handed new.bag)) c.shape-2.ensures) c.requires.sound

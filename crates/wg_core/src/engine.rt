@@ -4,7 +4,7 @@ ghost use Rattle.wg_words.specs.declared.limits.TheConstants.{MOST_ENTRIES, MOST
 ghost use Rattle.wg_machine.specs.declared.shape.Unit.{Unit as Node};
 ghost use Rattle.wg_machine.specs.declared.shape.Kind.TheVariants.{Thread};
 ghost use Rattle.wg_machine.specs.declared.launch.Entry.{Entry as Line};
-ghost use Rattle.wg_machine.specs.declared.launch.Sent.{Sent as Record};
+ghost use Rattle.wg_machine.specs.declared.launch.Sent.{Sent as SentOf};
 ghost use Rattle.wg_machine.specs.Buffers.{Buffers};
 ghost use Rattle.wg_machine.specs.Bytes.{plan_bytes};
 ghost use Rattle.wg_machine.specs.GoodShape.{IsGoodShape};
@@ -155,7 +155,7 @@ impl Core {
     /// Opens the launch that comes next. `Memory` changes nothing.
     pub fn open(&mut self) -> Opened
         ensures opens { Opens self.old self.new result }
-        ensures stands { (made : Meaning) (script : List Record) (start_buffers : Buffers)
+        ensures stands { (made : Meaning) (script : List SentOf) (start_buffers : Buffers)
             → StandsFor made script start_buffers self.old → StandsFor made script start_buffers self.new }
     {
         openings_stand();
@@ -214,7 +214,7 @@ impl Core {
     pub fn settle<B: Bodies>(&mut self, bodies: &B, ticket: u64) -> Settled
         requires graph { B.graph bodies.now ≡ self.old.shape }
         ensures settles { Settles (B.made bodies.now) self.old self.new ticket result }
-        ensures stands { (script : List Record) (start_buffers : Buffers)
+        ensures stands { (script : List SentOf) (start_buffers : Buffers)
             → StandsFor (B.made bodies.now) script start_buffers self.old → StandsFor (B.made bodies.now) script start_buffers self.new }
     {
         outs_fit();

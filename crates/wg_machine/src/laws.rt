@@ -4,7 +4,7 @@ ghost use Rattle.wg_machine.specs.declared.shape.Unit.{Unit as Node};
 ghost use Rattle.wg_machine.specs.declared.launch.Entry.{Entry as Line};
 ghost use Rattle.wg_machine.specs.declared.launch.Launch.{Launch as Launched};
 ghost use Rattle.wg_machine.specs.declared.launch.Live.{Live as Waiting};
-ghost use Rattle.wg_machine.specs.declared.launch.Sent.{Sent as Record};
+ghost use Rattle.wg_machine.specs.declared.launch.Sent.{Sent as SentOf};
 ghost use Rattle.wg_machine.specs.Additive.{AreWords, IsAdditive};
 ghost use Rattle.wg_machine.specs.Buffers.{Buffers, lengths_of};
 ghost use Rattle.wg_machine.specs.Bytes.{KeepsSlots, live_bytes, peak, plan_bytes};
@@ -24,7 +24,7 @@ ghost use Rattle.wg_machine.specs.Units.{depth_at, kind_at, most_inputs, stride_
 
 /// A complete run takes each group of each record once.
 pub fn each_once()
-    ensures { (shape : Graph) (made : Meaning) (turns : ℕ) (script : List Record) (buffers : Buffers)
+    ensures { (shape : Graph) (made : Meaning) (turns : ℕ) (script : List SentOf) (buffers : Buffers)
         (entries : List Line) (trail : List Passed) (final : State)
         → IsRun shape made turns (start shape script buffers) entries trail final → IsComplete final
         → EachOnce (all_born shape script trail) entries }
@@ -32,7 +32,7 @@ pub fn each_once()
 
 /// A run, complete or not, takes no group of a record more often than its grid has it.
 pub fn none_twice()
-    ensures { (shape : Graph) (made : Meaning) (turns : ℕ) (script : List Record) (buffers : Buffers)
+    ensures { (shape : Graph) (made : Meaning) (turns : ℕ) (script : List SentOf) (buffers : Buffers)
         (entries : List Line) (trail : List Passed) (final : State)
         → IsRun shape made turns (start shape script buffers) entries trail final
         → (r : ℕ) (at : List ℕ) → uses r at entries ≤ times at (groups_at (all_born shape script trail) r) }
@@ -40,7 +40,7 @@ pub fn none_twice()
 
 /// Each entry of a run names a group of the grid that its records had at their birth, by three numbers.
 pub fn entries_name_groups()
-    ensures { (shape : Graph) (made : Meaning) (turns : ℕ) (script : List Record) (buffers : Buffers)
+    ensures { (shape : Graph) (made : Meaning) (turns : ℕ) (script : List SentOf) (buffers : Buffers)
         (entries : List Line) (trail : List Passed) (final : State)
         → IsRun shape made turns (start shape script buffers) entries trail final
         → Each (NamesGroup (all_born shape script trail)) entries }
@@ -48,8 +48,8 @@ pub fn entries_name_groups()
 
 /// A launch that keeps the budgets of its unit sends no more to any unit than is needed of it.
 pub fn needs_are_kept()
-    ensures { (u : Node) (sent : List Record) (v : ℕ)
-        → KeepsBudgets u sent → count_by (λ (s : Record). s.unit == v) sent ≤ need_of u v }
+    ensures { (u : Node) (sent : List SentOf) (v : ℕ)
+        → KeepsBudgets u sent → count_by (λ (s : SentOf). s.unit == v) sent ≤ need_of u v }
 {}
 
 /// Records that fit the slots of a plan take no more than its bytes.
@@ -134,7 +134,7 @@ pub fn steps_fit()
 
 /// Every state of a run of lawful bodies fits the shape and keeps the buffers' lengths.
 pub fn runs_fit()
-    ensures { (shape : Graph) (made : Meaning) (turns : ℕ) (script : List Record) (buffers : Buffers)
+    ensures { (shape : Graph) (made : Meaning) (turns : ℕ) (script : List SentOf) (buffers : Buffers)
         (entries : List Line) (trail : List Passed) (final : State)
         → IsGoodShape shape → IsLawful shape made → Each (Arrives shape) script
         → IsRun shape made turns (start shape script buffers) entries trail final
@@ -145,13 +145,13 @@ pub fn runs_fit()
 pub fn sent_goes_deeper()
     ensures { (shape : Graph) (launch : Launched) (buffers : Buffers) (turns : ℕ) (o : Outcome)
         → IsGoodShape shape → FitsShape shape launch → KeepsLaws shape launch buffers turns o
-        → Each (λ (s : Record). depth_at shape launch.unit < depth_at shape s.unit) o.sent }
+        → Each (λ (s : SentOf). depth_at shape launch.unit < depth_at shape s.unit) o.sent }
 {}
 
 /// Every complete run of additive bodies, whatever its order, ends with the script's buffers and the totals of the
 /// entry records added.
 pub fn runs_end_with_totals()
-    ensures { (shape : Graph) (made : Meaning) (turns : ℕ) (script : List Record) (buffers : Buffers)
+    ensures { (shape : Graph) (made : Meaning) (turns : ℕ) (script : List SentOf) (buffers : Buffers)
         (entries : List Line) (trail : List Passed) (final : State)
         → IsGoodShape shape → IsLawful shape made → IsAdditive shape made → Each (Arrives shape) script → AreWords buffers
         → IsRun shape made turns (start shape script buffers) entries trail final → IsComplete final
@@ -160,7 +160,7 @@ pub fn runs_end_with_totals()
 
 /// Any two complete runs of additive bodies from one script end with the same buffers.
 pub fn runs_end_alike()
-    ensures { (shape : Graph) (made : Meaning) (turns : ℕ) (script : List Record) (buffers : Buffers)
+    ensures { (shape : Graph) (made : Meaning) (turns : ℕ) (script : List SentOf) (buffers : Buffers)
         (entries others : List Line) (trail trail_of_others : List Passed) (final final_of_others : State)
         → IsGoodShape shape → IsLawful shape made → IsAdditive shape made → Each (Arrives shape) script → AreWords buffers
         → IsRun shape made turns (start shape script buffers) entries trail final → IsComplete final
@@ -170,7 +170,7 @@ pub fn runs_end_alike()
 
 /// Where each node is a thread node that sends at most one record, a run has at most 32 launches for each entry record.
 pub fn chains_are_short()
-    ensures { (shape : Graph) (made : Meaning) (turns : ℕ) (script : List Record) (buffers : Buffers)
+    ensures { (shape : Graph) (made : Meaning) (turns : ℕ) (script : List SentOf) (buffers : Buffers)
         (entries : List Line) (trail : List Passed) (final : State)
         → IsGoodShape shape → IsLawful shape made → OnlyThreads shape → SendsOne shape made → Each (Arrives shape) script
         → IsRun shape made turns (start shape script buffers) entries trail final

@@ -11,7 +11,8 @@ use Rattle.std.proofs.lemmas.Slice.Eq.{bytes_eq-Decides}
 use Rattle.wg_words.specs.Each.{Each}
 use Rattle.wg_machine.specs.declared.shape.Shape.{Shape}
 use Rattle.wg_machine.specs.declared.launch.Entry.{Entry}
-use Rattle.wg_machine.specs.GoodShape.{is_identifier, IsGoodShape}
+use Rattle.wg_words.specs.Characters.{is_identifier}
+use Rattle.wg_machine.specs.GoodShape.{IsGoodShape}
 use Rattle.wg_machine.specs.declared.journal.Done.{Done}
 use Rattle.wg_machine.specs.declared.journal.BufferLine.{BufferLine}
 use Rattle.wg_machine.specs.declared.journal.Stop.{Stop}

@@ -1,28 +1,16 @@
 -- What holds of the shape of every accepted graph: the limits of this project and the rules of the unrolling.
-use Rattle.std.specs.Prelude.{◌≡◌, ◌≢◌, ◌⊎◌, ⊤, ℕ, ◌+◌, ◌*◌, ◌<◌, ◌≤◌, ◌==◌, ◌&&◌, ◌||◌, nat_le, Bool, false, List, [], ◌∷◌, length, map, slice_get, Option, Some, None, IsTrue}
-use Rattle.std.specs.List.{list_all}
+use Rattle.std.specs.Prelude.{◌≡◌, ◌≢◌, ◌⊎◌, ⊤, ℕ, ◌+◌, ◌*◌, ◌<◌, ◌≤◌, List, [], ◌∷◌, length, map, slice_get, Option, Some, None, IsTrue}
 use Rattle.wg_machine.specs.declared.shape.Kind.{Kind}
 use Rattle.wg_machine.specs.declared.shape.Kind.TheVariants.{Thread, Coalescing, Grid, GridField}
 use Rattle.wg_machine.specs.declared.shape.NodeName.{NodeName}
 use Rattle.wg_machine.specs.declared.shape.Output.{Output}
+use Rattle.wg_words.specs.Characters.{is_identifier}
 use Rattle.wg_words.specs.Each.{Each}
 use Rattle.wg_words.specs.declared.limits.TheConstants.{GRID_BOUND, MOST_AXIS_GROUPS, MOST_BUFFERS, MOST_ELEMENTS, MOST_NODES, MOST_OUTPUTS, MOST_RECORDS, MOST_RECORD_WORDS, MOST_RECURSION_DEPTH, MOST_UNIT_CHAIN}
 use Rattle.wg_machine.specs.declared.shape.Shape.{Shape}
 use Rattle.wg_machine.specs.declared.shape.Unit.{Unit}
 use Rattle.wg_machine.specs.Units.{is_broadcasting, stride_of}
 use Rattle.wg_machine.specs.Unrolling.{unrolled, node_and_level, depth_of, IsFirst}
-
--- a letter, or `_`
-abbrev pub is_letter : ℕ → Bool
-is_letter c = (nat_le 65 c && nat_le c 90) || (nat_le 97 c && nat_le c 122) || (c == 95)
-
-abbrev pub is_digit : ℕ → Bool
-is_digit c = nat_le 48 c && nat_le c 57
-
--- a name of HLSL: a letter or `_`, then letters, digits and `_`
-abbrev pub is_identifier : List ℕ → Bool
-is_identifier [] = false
-is_identifier (c ∷ name) = is_letter c && list_all (λ b. is_letter b || is_digit b) name
 
 pub record IsBetween (least most n : ℕ) : Type 0 where
   pub low : least ≤ n

@@ -17,7 +17,9 @@ use std::alloc::AllocError;
 use wg_machine::Halt;
 use wg_semantics::{Passed, Spot, State, Store, callees_are_functions};
 use wg_tree::{BinaryOperator, Directed, Direction, PrefixOperator};
-use wg_typed::{Access, Intrinsic, TypeTree, TypedExpr, TypedFunction, TypedKind, TypedLink, TypedParameter};
+use wg_typed::{
+    Access, Intrinsic, TypeTree, TypedExpr, TypedFunction, TypedKind, TypedLink, TypedParameter,
+};
 use wg_values::{
     Setting, buffer_place, combine_all, components, convert, element, fetch, field_piece,
     handle_place, input_place, intrinsic, parameter_size, part, prefix_all, put_all, raw_words,

@@ -62,11 +62,7 @@ fn record_words(alloc: Global, records: &[Record]) -> Result<WordLists, AllocErr
 }
 
 /// What the lanes share before they run.
-fn world_of(
-    entry: &Entry<'_>,
-    launch: &Launch,
-    buffers: WordLists,
-) -> Result<World, AllocError>
+fn world_of(entry: &Entry<'_>, launch: &Launch, buffers: WordLists) -> Result<World, AllocError>
     ensures { IfOk result (λ w. w ≡ world_before (first_shared entry.now.text.now.structs entry.now.text.now.shared) entry.now.unit.now launch.now buffers) }
 {
     let alloc = entry.alloc;

@@ -83,10 +83,7 @@ fn run_lane(
         return Ok(lane);
     }
     run.state.frame = lane.frame;
-    let end = match run_body(entry, statements, number, run) {
-        Ok(end) => end,
-        Err(halt) => return Err(halt),
-    };
+    let end = run_body(entry, statements, number, run)?;
     let frame = mem::replace(&mut run.state.frame, no_frame(entry.alloc));
     Ok(Lane {
         frame,
@@ -167,10 +164,7 @@ fn run_two(
     ensures { let bodies = entry_does entry.now.text.now entry.now.function.now entry.now.unit.now in
         Says (and_then (phases_run bodies (after_run before.now []) lanes run.old.state.world run.old.turns) (phases_run bodies (after_run collective.now []))) result run.new.state.world run.new.turns }
 {
-    let lanes = match run_some(entry, before, lanes, run) {
-        Ok(lanes) => lanes,
-        Err(halt) => return Err(halt),
-    };
+    let lanes = run_some(entry, before, lanes, run)?;
     run_some(entry, collective, lanes, run)
 }
 

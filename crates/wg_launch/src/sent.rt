@@ -82,11 +82,7 @@ fn send_from(
 }
 
 /// The records that a launch sends, by output and element.
-pub fn all_sent(
-    alloc: Global,
-    outputs: &[Output],
-    grants: &[Grant],
-) -> Result<SentList, AllocError>
+pub fn all_sent(alloc: Global, outputs: &[Output], grants: &[Grant]) -> Result<SentList, AllocError>
     ensures { IfOk result (λ sent. sent ≡ sent_through 0 outputs.now grants.now) }
 {
     let mut sent = SentList::new(alloc);

@@ -2,7 +2,9 @@ use crate::launch;
 use sqlite_items::Items;
 use std::alloc::{AllocError, Global};
 use std::test::Fail;
-use wg_machine::{Kind, Launch, NodeNames, Output, Outputs, Record, Records, Shape, Targets, Unit, Units};
+use wg_machine::{
+    Kind, Launch, NodeNames, Output, Outputs, Record, Records, Shape, Targets, Unit, Units,
+};
 use wg_semantics::Body;
 use wg_tree::{Named, Scalar};
 use wg_typed::{TypeTree, Typed, TypedExpr, TypedFunction, TypedHandle, TypedKind, TypedStmt};

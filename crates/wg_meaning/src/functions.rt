@@ -3,7 +3,7 @@ ghost use Rattle.wg_semantics.specs.Calls.{callee_at, on_world};
 ghost use Rattle.wg_semantics.specs.FunctionMeaning.{result_words, result_of, function_does};
 ghost use Rattle.wg_values.specs.Pieces.{setting_of};
 ghost use Rattle.std.specs.Option.{option_copied};
-ghost use Rattle.wg_evaluation.specs.Says.{Runs, callees_in};
+ghost use Rattle.wg_evaluation.specs.Says.{Runs, within, callees_in};
 
 use crate::stmt::block;
 use std::alloc::AllocError;

@@ -13,7 +13,10 @@ use wg_evaluation::{Calls, Run, call, spot, value, word};
 use wg_machine::Halt;
 use wg_semantics::{Spot, State, Store};
 use wg_tree::{BinaryOperator, Scalar, StepOperator};
-use wg_typed::{Destination, Interlocked, InterlockedForm, TypeTree, TypedDeclarator, TypedExpr, TypedStart, TypedStep};
+use wg_typed::{
+    Destination, Interlocked, InterlockedForm, TypeTree, TypedDeclarator, TypedExpr, TypedStart,
+    TypedStep,
+};
 use wg_values::{
     Setting, combine_all, convert, fetch, greater, lesser, scalar, step_all, word_at, write,
     zero_value,

@@ -3,14 +3,14 @@ use Rattle.std.proofs.Common.{◌≡◌, ℕ, Bool, true, false, not, cond, List
 use Rattle.std.specs.Prelude.{◌||◌, ◌==◌, is_none}
 use Rattle.wg_words.specs.declared.place.Place.{Place}
 use Rattle.wg_typing.specs.Layers.{Part, Piece, word, zero_word, other}
-use Rattle.wg_typing.specs.Maybe.{then, where_true}
+use Rattle.wg_typing.specs.Maybe.{and_then, where_true}
 use Rattle.wg_typing.specs.Named.{at_name}
-use Rattle.wg_typing.specs.RulesBarrier.{barrier_in_plain}
+use Rattle.wg_typing.specs.RulesBadBarrier.{barrier_in_plain}
 use Rattle.wg_typing.specs.RulesMismatchCall.{unfit_flags}
 use Rattle.wg_typing.specs.RulesShared.{flags_whole, all_pieces_whole, unknown_flags}
 use Rattle.wg_typing.specs.RulesUnknownName.{places_of}
 use Rattle.wg_typing.specs.Scope.{Context, Around, in_entry, in_plain, in_const, look}
-use Rattle.wg_typing.specs.SiteTree.{at_if}
+use Rattle.wg_typing.specs.Sites.{at_if}
 use Rattle.wg_typing.specs.TypingBarrier.{Flag, memory, scope, an_object, broken_flag, no_flag, flag_of, flag_word, flag, memory_flags, scope_flags, piece_broken, any_broken, orders, syncs_of, barrier_value, outside_plain}
 use Rattle.wg_tree.specs.declared.expr.Named.{Named}
 use Rattle.wg_typing.specs.declared.scope.Meant.{Meant}
@@ -121,7 +121,7 @@ has_flags c name [] n h l u f = absurd (cc)
 has_flags c name (m ∷ []) n h l u f = absurd (cc)
 has_flags c name (m ∷ s ∷ []) n h l u f =
     let o = ordered c m s n h u f in
-    has_then (then (where_true (orders c m.pieces) s.pieces) (syncs_of c)) _ (has_through (orders c m.pieces) s.pieces (syncs_of c) o.orders o.syncs) (λ b q. tt)
+    has_then (and_then (where_true (orders c m.pieces) s.pieces) (syncs_of c)) _ (has_through (orders c m.pieces) s.pieces (syncs_of c) o.orders o.syncs) (λ b q. tt)
 has_flags c name (m ∷ s ∷ r ∷ rest) n h l u f = absurd (three_for_two (length rest) l)
 
 pub has_barrier_of : (c : Context) (name : Place) (parts : List Part) → AllStand c.names → AllFlags parts → Empty (places_of (unknown_flags c parts)) → Empty (unfit_flags c parts)

@@ -6,9 +6,9 @@ use Rattle.wg_words.specs.declared.place.Place.{Place}
 use Rattle.wg_typing.specs.Conversions.{same_type, fits}
 use Rattle.wg_typing.specs.Layers.{Part, typed_part}
 use Rattle.wg_typing.specs.Maybe.{where_true}
-use Rattle.wg_typing.specs.RulesArity.{miscounted_call}
-use Rattle.wg_typing.specs.RulesBarrier.{barrier_called}
-use Rattle.wg_typing.specs.RulesLimit.{chain_beyond}
+use Rattle.wg_typing.specs.RulesWrongArity.{miscounted_call}
+use Rattle.wg_typing.specs.RulesBadBarrier.{barrier_called}
+use Rattle.wg_typing.specs.RulesLimitPassed.{chain_beyond}
 use Rattle.wg_typing.specs.RulesMismatchCall.{is_given_back, passes, unfit_passed, same_length, unfit_call}
 use Rattle.wg_typing.specs.RulesNotAssignable.{can_change, fixed_passed, fixed_argument}
 use Rattle.wg_typing.specs.RulesOutOfProfile.{entry_called}
@@ -18,7 +18,7 @@ use Rattle.wg_typing.specs.TypingActs.{is_output_act, is_syncing}
 use Rattle.wg_typing.specs.RulesUnknownName.{unknown_call}
 use Rattle.wg_typing.specs.Scope.{Context}
 use Rattle.wg_typing.specs.TypingBarrier.{plain_barrier}
-use Rattle.wg_typing.specs.TypingCallee.{Callee, plain, entry, itself, builtin, broken, unknown, on_numbers, interlocked, levels, barrier, barrier_of}
+use Rattle.wg_typing.specs.TypingCallee.{CalledName, plain, entry, itself, builtin, broken, unknown, on_numbers, interlocked, levels, barrier, barrier_of}
 use Rattle.wg_typing.specs.TypingCalls.{call_value}
 use Rattle.wg_typing.specs.TypingFunctionCall.{passed_place, passed_as, passed_all, chain_fits, call_of, plain_value}
 use Rattle.wg_typing.specs.TypingInterlocked.{is_fixed}
@@ -68,12 +68,12 @@ has_plain name number result parameters chain parts l h e f k = has_then (passed
 -- ---- any call
 
 -- what is given to a call: values, or flags
-abbrev pub Given : Callee → List Part → Type 0
+abbrev pub Given : CalledName → List Part → Type 0
 Given (builtin barrier_of) parts = AllFlags parts
 Given _ parts = AllWhole parts
 
 -- a call at which no rule is broken
-pub record ClearCall (c : Context) (name : Place) (k : Callee) (parts : List Part) : Type 0 where
+pub record ClearCall (c : Context) (name : Place) (k : CalledName) (parts : List Part) : Type 0 where
   pub named : Empty (unknown_call c name k parts)
   pub other : Empty (itself_called name k)
   pub no_entry : Empty (entry_called name k)
@@ -86,7 +86,7 @@ pub record ClearCall (c : Context) (name : Place) (k : Callee) (parts : List Par
   pub counted : Empty (miscounted_call c name k parts)
   pub barrier : Empty (barrier_called c name k parts)
 
-pub has_call : (c : Context) (name : Place) (k : Callee) (parts : List Part) → AllStand c.names → Called k → Given k parts → ClearCall c name k parts → Has (call_value c name k parts)
+pub has_call : (c : Context) (name : Place) (k : CalledName) (parts : List Part) → AllStand c.names → Called k → Given k parts → ClearCall c name k parts → Has (call_value c name k parts)
 has_call c name (plain number result parameters chain) parts n d g h =
     let typed = all_typed parts g h.values h.outputs h.syncs in
     let same = not_false _ (is_false (not (same_length parameters parts)) name (said parts _ typed h.counted)) in

@@ -2,15 +2,15 @@
 use Rattle.std.proofs.Common.{◌≡◌, ℕ, Bool, true, false, cond, List, [], ◌∷◌, map, Option, Some, None, refl, sym, subst}
 use Rattle.std.specs.Prelude.{nat_lt}
 use Rattle.wg_words.specs.declared.place.Place.{Place}
-use Rattle.wg_typing.specs.Maybe.{then}
-use Rattle.wg_typing.specs.Conversions.{numbers, type_of, fits, is_number, number_type, uint_type, truth_type, chosen}
+use Rattle.wg_typing.specs.Maybe.{and_then}
+use Rattle.wg_typing.specs.Conversions.{numbers, type_of, fits, is_number, number_type, uint_type, truth_type, common_numbers}
 use Rattle.wg_typed.specs.Constants.{Known, Right, expr_value, form_value, link_value, const_value, applied_value}
 use Rattle.wg_typed.specs.Constants.{chain_value as const_chain}
 use Rattle.wg_typing.specs.Scope.{Context, as_const, look, known_names, constant_if}
 use Rattle.wg_typing.specs.Layers.{FormLayer, LinkLayer, Part, TypedPart, typed_at, typed_part, convert, fit}
 use Rattle.wg_typing.specs.TypingName.{const_name}
 use Rattle.wg_typing.specs.TypingOperators.{prefix_type, chain_value, suited, run_type, chain_type, chain_links, prefix_value, choice_value}
-use Rattle.wg_typing.specs.TypingExpr.{Seen, expr_seen, form_seen, link_seen, part}
+use Rattle.wg_typing.specs.TypingExpr.{ExprForm, expr_seen, form_seen, link_seen, part}
 use Rattle.wg_tree.specs.declared.expr.BinaryOperator.{BinaryOperator}
 use Rattle.wg_tree.specs.declared.expr.PrefixOperator.{PrefixOperator}
 use Rattle.wg_tree.specs.declared.expr.Expr.{Expr, roll-Expr, fold-roll-Expr, ind-Expr, map-Expr}
@@ -38,7 +38,7 @@ IsNumber (Some (value.Act name a)) = Unit {0}
 IsNumber (Some (value.Text bytes)) = Unit {0}
 IsNumber None = Unit {0}
 
-then_number : {A : Type 0} (o : Option A) (f : A → Option Value) → ((a : A) → o ≡ Some a → IsNumber (f a)) → IsNumber (then o f)
+then_number : {A : Type 0} (o : Option A) (f : A → Option Value) → ((a : A) → o ≡ Some a → IsNumber (f a)) → IsNumber (and_then o f)
 then_number None f k = tt
 then_number (Some a) f k = k a refl
 
@@ -84,13 +84,13 @@ abbrev NumberIf : Option TypeTree → Type 0
 NumberIf None = Unit {0}
 NumberIf (Some t) = is_number t ≡ true
 
-then_number_if : {A : Type 0} (o : Option A) (f : A → Option TypeTree) → ((a : A) → NumberIf (f a)) → NumberIf (then o f)
+then_number_if : {A : Type 0} (o : Option A) (f : A → Option TypeTree) → ((a : A) → NumberIf (f a)) → NumberIf (and_then o f)
 then_number_if None f k = tt
 then_number_if (Some a) f k = k a
 
 chain_number : (a : Option TypeTree) (rest : List (LinkLayer Part)) → NumberIf a → NumberIf (chain_type a rest)
 chain_number a [] n = n
-chain_number a (l ∷ rest) n = chain_number (then a (λ of. run_type of l)) rest
+chain_number a (l ∷ rest) n = chain_number (and_then a (λ of. run_type of l)) rest
     (then_number_if a _ (λ of. then_number_if (typed_part l.operand) _ (λ t. then_number_if (suited l.operator of t.of) _ (λ o. is_number_type o.result))))
 
 chain_is : (place : Place) (first : Part) (rest : List (LinkLayer Part)) → IsNumber first.value → IsNumber (chain_value place first rest)
@@ -105,7 +105,7 @@ prefix_is place operator p = then_number (typed_part p) _ (λ t e. then_number (
 
 choice_is : (place : Place) (test a b : Part) → IsNumber (choice_value place test a b)
 choice_is place test a b = then_number (fit truth_type test) _ (λ x e. then_number (typed_part a) _ (λ s f. then_number (typed_part b) _ (λ t g.
-    then_number (numbers s.of) _ (λ m h. then_number (numbers t.of) _ (λ n i. then_number (chosen m n) _ (λ c j.
+    then_number (numbers s.of) _ (λ m h. then_number (numbers t.of) _ (λ n i. then_number (common_numbers m n) _ (λ c j.
     then_number (convert (type_of c) s) _ (λ k l. then_number (convert (type_of c) t) _ (λ u v. is_number_type c))))))))
 
 -- ---- expressions
@@ -147,7 +147,7 @@ module _ (c : Context) (stand : AllStand c.names) where
   pub const_number : (e : Expr) → Claim e
   const_number e = ind-Expr Claim (λ f. Unit {0}) (λ l. Unit {0})
       (λ x y eq. subst (λ l. Claim (roll-Expr l)) eq (λ h.
-      subst (λ (s : Seen). IsNumber s.part.value) (sym (fold-roll-Expr Seen (FormLayer Seen) (LinkLayer Seen) (expr_seen here) form_seen link_seen _))
+      subst (λ (s : ExprForm). IsNumber s.part.value) (sym (fold-roll-Expr ExprForm (FormLayer ExprForm) (LinkLayer ExprForm) (expr_seen here) form_seen link_seen _))
       (level (λ b. b.0) (λ b. b.0) (λ b. b.0) (λ b. b.1) y (subst Has (fold-roll-Expr (Option ConstValue) (Unit {0}) Right (expr_value known) form_value link_value _) h))))
       (λ x y eq. tt)
       (λ x y eq. tt)

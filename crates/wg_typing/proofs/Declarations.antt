@@ -2,15 +2,15 @@
 use Rattle.std.proofs.Common.{◌≡◌, ℕ, Bool, true, false, not, List, [], ◌∷◌, ◌++◌, Option, Some, None, refl, subst}
 use Rattle.std.specs.Prelude.{◌||◌, is_some}
 use Rattle.wg_words.specs.declared.place.Place.{Place}
-use Rattle.wg_typing.specs.Maybe.{then, if_there}
+use Rattle.wg_typing.specs.Maybe.{and_then, if_there}
 use Rattle.wg_typing.specs.RulesMismatch.{unfit_handle}
 use Rattle.wg_typing.specs.RulesOutOfProfile.{is_no_record}
-use Rattle.wg_typing.specs.RulesOutputCall.{starts}
+use Rattle.wg_typing.specs.RulesBadOutputCall.{starts}
 use Rattle.wg_typing.specs.RulesShared.{act_at}
 use Rattle.wg_typing.specs.TypingActs.{is_syncing}
-use Rattle.wg_typing.specs.Scope.{Context, Gives, nothing, a_value, unsure, collective_here, named_type, own_names}
-use Rattle.wg_typing.specs.SiteTree.{at_if}
-use Rattle.wg_typing.specs.Sites.{AtObject}
+use Rattle.wg_typing.specs.Scope.{Context, GivesBack, nothing, a_value, unsure, collective_here, named_type, own_names}
+use Rattle.wg_typing.specs.Sites.{at_if}
+use Rattle.wg_typing.specs.Site.{AtObject}
 use Rattle.wg_typing.specs.Typing.{UnknownName, Mismatch, BadBarrier, BadOutputCall, OutOfProfile}
 use Rattle.wg_typing.specs.TypingDeclaration.{with_local, declarator_after, declarator_sites, declarator_tree, declarators_after, declarators_sites, declarators_trees, all_declarators, declared_as, declaration_after, declaration_sites, declaration_trees}
 use Rattle.wg_typing.specs.TypingDeclared.{declared_type, wanted_there, fit_in}
@@ -36,7 +36,7 @@ use Rattle.wg_typing.proofs.Wanted.{Elemental, elemental, has_declared, wanted_f
 
 -- ---- contexts that are fine
 
-abbrev pub IsSure : Gives → Type 0
+abbrev pub IsSure : GivesBack → Type 0
 IsSure nothing = Unit {0}
 IsSure (a_value of) = Unit {0}
 IsSure unsure = ⊥
@@ -97,7 +97,7 @@ has_declaration d c f h = has_declarators (is_some d.constant) (declared_as d c)
 
 -- ---- objects with a record type
 
-number_of : (t : Option TypeTree) (p : Place) → Has t → Empty (at_if (is_no_record t) p) → Has (then t struct_number)
+number_of : (t : Option TypeTree) (p : Place) → Has t → Empty (at_if (is_no_record t) p) → Has (and_then t struct_number)
 number_of None p h e = absurd h
 number_of (Some t) p h e = has_is_none (struct_number t) (is_false _ p e)
 
@@ -105,7 +105,7 @@ either_false : (a b : Bool) (p : Place) → Empty (at_if (not a || b) p) → (a 
 either_false true b p h = (refl, h)
 either_false false b p h = absurd h
 
-record_has : (c : Context) (of : Option TypeName) → AllStand c.names → Has of → Well (type_there c of) → Has (then of (named_type c.names))
+record_has : (c : Context) (of : Option TypeName) → AllStand c.names → Has of → Well (type_there c of) → Has (and_then of (named_type c.names))
 record_has c None n h w = absurd h
 record_has c (Some of) n h w = has_type c of n ((well_only w).clear UnknownName)
 
@@ -119,7 +119,7 @@ may_stand c allowed of t k = (either_false allowed _ of.place (k.clear OutOfProf
 -- ---- handles
 
 request_has : (c : Context) (group : Option Bool) (number : Option ℕ) (p : Place) (v : Option Value) → Has group → Has number → Has v → Empty (unfit_handle group number p v) → Empty (act_at (λ a. not (starts c a)) v) → Empty (act_at is_syncing v)
-    → Has (then (request_in group number v) (request_stmt c)) × Has (request_in group number v)
+    → Has (and_then (request_in group number v) (request_stmt c)) × Has (request_in group number v)
 request_has c None number p v g n h e o s = absurd g
 request_has c (Some group) None p v g n h e o s = absurd n
 request_has c (Some group) (Some number) p None g n h e o s = absurd h
@@ -140,7 +140,7 @@ handle_fine name None handle c h k f = absurd h
 handle_fine name (Some number) handle c h k f = record { names = stand_push c.names _ f.names tt; values = f.values; gives = f.gives; handles = have_push c.handles handle f.handles k }
 
 pub has_handle : (of : ObjectType) (name : Named) (e : Expr) (c : Context) → Fine c → Well (handle_sites of name e c)
-    → Declares (Has (then (handle_request c of e) (request_stmt c))) (with_handle name (handle_record c of) (handle_tree name (handle_request c of e)) c)
+    → Declares (Has (and_then (handle_request c of e) (request_stmt c))) (with_handle name (handle_record c of) (handle_tree name (handle_request c of e)) c)
 has_handle of name e c f h =
     let objects = well_left (well_right h) in
     let object = well_only (well_left (well_right objects)) in

@@ -2,8 +2,8 @@
 use Rattle.std.proofs.Common.{◌≡◌, Bool, true, false, not, cond, List, [], ◌∷◌, ◌++◌, Option, Some, None, inl, refl, sym, subst}
 use Rattle.std.specs.Prelude.{◌&&◌, ◌||◌, is_some, is_none}
 use Rattle.wg_words.specs.declared.place.Place.{Place}
-use Rattle.wg_typing.specs.Maybe.{then, where_true}
-use Rattle.wg_typing.specs.SiteTree.{In, at_if}
+use Rattle.wg_typing.specs.Maybe.{and_then, where_true}
+use Rattle.wg_typing.specs.Sites.{In, at_if}
 
 -- ---- places
 
@@ -75,11 +75,11 @@ pub some_value : {A : Type 0} {a b : A} → Some a ≡ Some b → a ≡ b
 some_value {A} {a} {b} e = cc
 
 -- what stands behind a value that is there
-pub then_some : {A B : Type 0} (o : Option A) (f : A → Option B) (b : B) → then o f ≡ Some b → (a : A) × (o ≡ Some a) × (f a ≡ Some b)
+pub then_some : {A B : Type 0} (o : Option A) (f : A → Option B) (b : B) → and_then o f ≡ Some b → (a : A) × (o ≡ Some a) × (f a ≡ Some b)
 then_some None f b e = absurd (cc)
 then_some (Some a) f b e = (a, refl, e)
 
-pub has_then : {A B : Type 0} (o : Option A) (f : A → Option B) → Has o → ((a : A) → o ≡ Some a → Has (f a)) → Has (then o f)
+pub has_then : {A B : Type 0} (o : Option A) (f : A → Option B) → Has o → ((a : A) → o ≡ Some a → Has (f a)) → Has (and_then o f)
 has_then None f h k = absurd h
 has_then (Some a) f h k = k a refl
 
@@ -95,11 +95,11 @@ pub where_same : {A : Type 0} (b : Bool) (a x : A) → where_true b a ≡ Some x
 where_same true a x e = some_value e
 where_same false a x e = absurd (cc)
 
-pub through_where : {A B : Type 0} (b : Bool) (a : A) (f : A → Option B) → b ≡ true → then (where_true b a) f ≡ f a
+pub through_where : {A B : Type 0} (b : Bool) (a : A) (f : A → Option B) → b ≡ true → and_then (where_true b a) f ≡ f a
 through_where true a f e = refl
 through_where false a f e = absurd (cc)
 
-pub has_through : {A B : Type 0} (b : Bool) (a : A) (f : A → Option B) → b ≡ true → Has (f a) → Has (then (where_true b a) f)
+pub has_through : {A B : Type 0} (b : Bool) (a : A) (f : A → Option B) → b ≡ true → Has (f a) → Has (and_then (where_true b a) f)
 has_through b a f e h = subst Has (sym (through_where b a f e)) h
 
 pub has_is_some : {A : Type 0} (o : Option A) → is_some o ≡ true → Has o

@@ -4,8 +4,8 @@ use Rattle.std.specs.Prelude.{slice_get}
 use Rattle.wg_words.specs.declared.place.Place.{Place}
 use Rattle.wg_typing.specs.Conversions.{uint_type}
 use Rattle.wg_typing.specs.Layers.{FormLayer, member, method, index, Part, fit}
-use Rattle.wg_typing.specs.Maybe.{then, where_true}
-use Rattle.wg_typing.specs.RulesArity.{miscounted_form, miscounted_method}
+use Rattle.wg_typing.specs.Maybe.{and_then, where_true}
+use Rattle.wg_typing.specs.RulesWrongArity.{miscounted_form, miscounted_method}
 use Rattle.wg_typing.specs.RulesMismatchExpr.{unfit_index, unfit_method, unfit_form}
 use Rattle.wg_typing.specs.RulesNotAssignable.{fixed_method, fixed_form}
 use Rattle.wg_typing.specs.RulesShared.{form_parts, forms_parts, act_at, before_form}
@@ -46,7 +46,7 @@ abbrev ProperIf : Option Along → Type 0
 ProperIf None = Unit {0}
 ProperIf (Some a) = Proper a
 
-then_proper : {A : Type 0} (o : Option A) (f : A → Option Along) → ((a : A) → ProperIf (f a)) → ProperIf (then o f)
+then_proper : {A : Type 0} (o : Option A) (f : A → Option Along) → ((a : A) → ProperIf (f a)) → ProperIf (and_then o f)
 then_proper None f k = tt
 then_proper (Some a) f k = k a
 
@@ -68,7 +68,7 @@ index_proper (type.Struct number) p r = tt
 index_proper (type.Array of size) p r = then_proper (fit uint_type p) _ (λ i. tt)
 
 method_proper : (place name : Place) (o : Object) (parts : List Part) (m : Method) → ProperIf (method_on place name o parts m)
-method_proper place name o parts m = then_proper (then (where_true (takes o m parts) parts) (method_value place name o m)) _ begin_proper
+method_proper place name o parts m = then_proper (and_then (where_true (takes o m parts) parts) (method_value place name o m)) _ begin_proper
 
 form_proper : (c : Context) (place : Place) (a : Along) (f : FormLayer Part) → ProperIf (form_on c place a f)
 form_proper c place (at_typed r) (member name) = member_proper c.structs r.of name.name r
@@ -77,7 +77,7 @@ form_proper c place (at_typed r) (index p) = index_proper r.of p r
 form_proper c place (at_other (value.Typed of standing tree)) f = tt
 form_proper c place (at_other (value.Object o)) (member name) = tt
 form_proper c place (at_other (value.Object o)) (method name parts) = then_proper (method_of o name.name) _ (method_proper place name.place o parts)
-form_proper c place (at_other (value.Object o)) (index p) = then_proper (then (fit uint_type p) (element_value place o)) _ begin_proper
+form_proper c place (at_other (value.Object o)) (index p) = then_proper (and_then (fit uint_type p) (element_value place o)) _ begin_proper
 form_proper c place (at_other (value.Act name a)) f = tt
 form_proper c place (at_other (value.Text bytes)) f = tt
 
@@ -116,13 +116,13 @@ has_form c place (at_other (value.Object o)) (method name parts) d t h =
     has_then (method_of o name.name) _ (has_is_none (method_of o name.name) (is_false _ name.place h.named)) (λ m q.
     let taken = not_false (takes o m parts) (is_false _ name.place (said parts _ t (subst (λ x. Empty (miscounted_method o name.place parts x)) q h.counted))) in
     let fits = said parts _ t (empty_if (takes o m parts) _ taken (subst (λ x. Empty (unfit_method o parts x)) q h.fit)) in
-    has_then (then (where_true (takes o m parts) parts) (method_value place name.place o m)) _
+    has_then (and_then (where_true (takes o m parts) parts) (method_value place name.place o m)) _
     (has_through (takes o m parts) parts (method_value place name.place o m) taken
     (has_method place name.place o m parts name.name q taken t fits (subst (λ x. Empty (fixed_method parts x)) q h.assignable)))
     (λ v r. tt))
 has_form c place (at_other (value.Object o)) (index p) d t h =
     let e = first_only (has_elements o) _ place (said (p ∷ []) _ t h.fit) in
-    has_then (then (fit uint_type p) (element_value place o)) _ (has_then (fit uint_type p) _ (has_fit uint_type p t.0 e.1) (λ i q. has_element place o i e.0)) (λ v r. tt)
+    has_then (and_then (fit uint_type p) (element_value place o)) _ (has_then (fit uint_type p) _ (has_fit uint_type p t.0 e.1) (λ i q. has_element place o i e.0)) (λ v r. tt)
 has_form c place (at_other (value.Act name x)) f d t h = absurd (has_no_form c place name x f h)
 has_form c place (at_other (value.Text bytes)) f d t h = absurd h.fit
 
@@ -171,7 +171,7 @@ has_all_forms c place a (f ∷ rest) d t h = has_then (form_on c place a f) _ (h
     has_all_forms c place b rest (subst ProperIf q (form_proper c place a f)) (all_typed_right (form_parts f) _ t) (subst (λ x. ClearForms c place x rest) q (rest_clear c place a f rest h)))
 
 -- a value with forms after it
-pub has_forms : (c : Context) (place : Place) (v : Option Value) (forms : List (FormLayer Part)) → Has v → AllTyped (forms_parts forms) → ClearForms c place (then v (λ v. Some (begin v))) forms
-    → Has (then (then (then v (λ v. Some (begin v))) (λ a. forms_on c place a forms)) (λ a. Some (finish place a)))
+pub has_forms : (c : Context) (place : Place) (v : Option Value) (forms : List (FormLayer Part)) → Has v → AllTyped (forms_parts forms) → ClearForms c place (and_then v (λ v. Some (begin v))) forms
+    → Has (and_then (and_then (and_then v (λ v. Some (begin v))) (λ a. forms_on c place a forms)) (λ a. Some (finish place a)))
 has_forms c place None forms h t k = absurd h
 has_forms c place (Some v) forms h t k = has_then (forms_on c place (begin v) forms) _ (has_all_forms c place (begin v) forms (begin_proper v) t k) (λ a q. tt)

@@ -1,12 +1,12 @@
 -- Functions in which no rule is broken have typed forms.
 use Rattle.std.proofs.Common.{◌≡◌, ℕ, Bool, true, false, cond, List, [], ◌∷◌, map, Option, Some, None, refl, subst}
 use Rattle.wg_typing.specs.Maybe.{all_of}
-use Rattle.wg_typing.specs.Scope.{Context, Around, in_entry, in_plain, in_const, Gives, nothing, a_value, unsure, named_type}
+use Rattle.wg_typing.specs.Scope.{Context, Around, in_entry, in_plain, in_const, GivesBack, nothing, a_value, unsure, named_type}
 use Rattle.wg_typing.specs.Typing.{UnknownName}
 use Rattle.wg_typing.specs.TypingEvents.{events, chain_of}
 use Rattle.wg_typing.specs.TypingFunction.{around_of, gives, gives_if, result_sites, head_context, parameter_context, first_before, body_context, body_sites, function_sites, result_if, function_tree, passed_if, passed_of, passed_in, function_if, function_meant}
 use Rattle.wg_typing.specs.TypingHandle.{record_number}
-use Rattle.wg_typing.specs.TypingParameter.{Role, an_input, an_output, no_role, role_of, Before, one_more, takes_role, Holds, empty, records, unsure_records, holds_named, holds, role_object, object_if, value_if, parameter_meant, with_parameter, parameters_after, parameter_type_sites, parameters_sites, object_tree, parameter_type_tree, parameter_tree, parameters_trees}
+use Rattle.wg_typing.specs.TypingParameter.{Role, an_input, an_output, no_role, role_of, Before, one_more, takes_role, HeldRecords, empty, records, unsure_records, holds_named, holds, role_object, object_if, value_if, parameter_meant, with_parameter, parameters_after, parameter_type_sites, parameters_sites, object_tree, parameter_type_tree, parameter_tree, parameters_trees}
 use Rattle.wg_typing.specs.TypingSoFar.{Text, outside}
 use Rattle.wg_typing.specs.TypingStmt.{block_after, block_trees, walked}
 use Rattle.wg_tree.specs.declared.expr.Named.{Named}
@@ -44,7 +44,7 @@ takes_is_role (in_entry lanes) has_input no_role e q = cc
 takes_is_role in_plain has_input role e q = cc
 takes_is_role (in_const allowed) has_input role e q = cc
 
-abbrev Held : Holds → Type 0
+abbrev Held : HeldRecords → Type 0
 Held empty = Unit {0}
 Held (records number) = Unit {0}
 Held unsure_records = ⊥
@@ -54,12 +54,12 @@ held None number k = tt
 held (Some of) None k = k tt
 held (Some of) (Some number) k = tt
 
-object_has : (c : Context) (of : ObjectType) (h : Holds) → Held h → Has (object_tree c of h)
+object_has : (c : Context) (of : ObjectType) (h : HeldRecords) → Held h → Has (object_tree c of h)
 object_has c of empty k = tt
 object_has c of (records number) k = tt
 object_has c of unsure_records k = absurd k
 
-object_stands : (role : Role) (outputs : ℕ) (h : Holds) → (role ≡ no_role → ⊥) → Held h → Stands (object_if (role_object role outputs h))
+object_stands : (role : Role) (outputs : ℕ) (h : HeldRecords) → (role ≡ no_role → ⊥) → Held h → Stands (object_if (role_object role outputs h))
 object_stands (an_input many s) outputs empty n k = tt
 object_stands (an_input many s) outputs (records number) n k = tt
 object_stands (an_output array) outputs empty n k = tt
@@ -161,7 +161,7 @@ gives_sure x (result_type.Value of) n h = sure (named_type x.names of) (has_type
     sure None h = h
     sure (Some t) h = tt
 
-result_has : (g : Gives) → IsSure g → Has (result_if g)
+result_has : (g : GivesBack) → IsSure g → Has (result_if g)
 result_has nothing s = tt
 result_has (a_value of) s = tt
 result_has unsure s = s

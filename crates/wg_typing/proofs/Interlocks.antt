@@ -3,8 +3,8 @@ use Rattle.std.proofs.Common.{◌≡◌, ℕ, true, not, List, [], ◌∷◌, �
 use Rattle.wg_words.specs.declared.place.Place.{Place}
 use Rattle.wg_typing.specs.Conversions.{fits, is_word, uint_type}
 use Rattle.wg_typing.specs.Layers.{Part, TypedPart, typed_part, fit}
-use Rattle.wg_typing.specs.Maybe.{then, where_true, if_there}
-use Rattle.wg_typing.specs.RulesArity.{takes_form}
+use Rattle.wg_typing.specs.Maybe.{and_then, where_true, if_there}
+use Rattle.wg_typing.specs.RulesWrongArity.{takes_form}
 use Rattle.wg_typing.specs.RulesMismatchCall.{unfit_operands, unfit_words, unfit_interlocked, unfit_raw_operands, unfit_raw_words, unfit_raw}
 use Rattle.wg_typing.specs.RulesNotAssignable.{can_change, is_in_memory, fixed_old, fixed_destination, fixed_interlocked, fixed_raw}
 use Rattle.wg_typing.specs.RulesShared.{failing, maybe_failing, unfit}
@@ -74,7 +74,7 @@ has_word p h w c = has_then (typed_part p) _ h (λ t e.
 
 memory_is : (p : Part) (t : TypedPart) → typed_part p ≡ Some t → is_word t.of ≡ true → is_memory t.standing ≡ true → memory_place p ≡ Some t
 memory_is p t e w m =
-    ap (λ o. then o (λ t. then (where_true (is_word t.of) t) (λ t. where_true (is_memory t.standing) t))) e
+    ap (λ o. and_then o (λ t. and_then (where_true (is_word t.of) t) (λ t. where_true (is_memory t.standing) t))) e
     ∙ through_where (is_word t.of) t _ w ∙ where_is (is_memory t.standing) t m
 
 -- ---- forms
@@ -124,4 +124,4 @@ has_raw name f buffer (to ∷ parts) h n e c = has_then (operands f parts) _ (ha
     has_then (fit uint_type to) _ (has_fit uint_type to h.0 (empty_left (unfit uint_type to) _ faults)) (λ a r.
     has_then (typed_part o.value) _ typed.value (λ v s.
     has_form name f (destination.Raw buffer a) (raw_type v.of) o typed
-    (subst (λ x. Empty (unfit_raw_operands (then x (λ t. Some t.of)) o)) s (empty_right (unfit uint_type to) _ faults)) (subst (λ x. Empty (fixed_old x)) q c))))
+    (subst (λ x. Empty (unfit_raw_operands (and_then x (λ t. Some t.of)) o)) s (empty_right (unfit uint_type to) _ faults)) (subst (λ x. Empty (fixed_old x)) q c))))

@@ -7,7 +7,7 @@ use Rattle.wg_typing.specs.RulesMismatchExpr.{unfit_in}
 use Rattle.wg_typing.specs.RulesShared.{value_parts, no_value, act_at, each_part, forms_parts, links_parts, unfit}
 use Rattle.wg_typing.specs.TypingActs.{is_output_act, is_syncing}
 use Rattle.wg_typing.specs.Scope.{Context, look}
-use Rattle.wg_typing.specs.Sites.{AtExpr}
+use Rattle.wg_typing.specs.Site.{AtExpr}
 use Rattle.wg_typing.specs.Typing.{UnknownName, Mismatch, NotAssignable, Recursion, LimitPassed, BadBarrier, BadOutputCall, WrongArity, OutOfProfile}
 use Rattle.wg_typing.specs.TypingCallee.{callee}
 use Rattle.wg_typing.specs.TypingExpr.{layer_value, first_token}

@@ -7,7 +7,7 @@ use Prim.Native.String.{String}
 use Rattle.wg_words.specs.declared.place.Place.{Place}
 use Rattle.wg_typing.specs.Conversions.{uint_type, uints}
 use Rattle.wg_typing.specs.Layers.{Part, fit, fit_all}
-use Rattle.wg_typing.specs.Maybe.{then}
+use Rattle.wg_typing.specs.Maybe.{and_then}
 use Rattle.wg_typing.specs.Named.{at_name}
 use Rattle.wg_typing.specs.RulesMismatchExpr.{unfit_arguments}
 use Rattle.wg_typing.specs.RulesNotAssignable.{fixed_method}
@@ -66,17 +66,17 @@ all_hold (object.Handle handle number) = refl
 
 -- ---- one argument, and two
 
-has_one : (t : TypeTree) (p : Part) (g : List TypedExpr → Option Value) → IsTyped p → Empty (unfit_all (t ∷ []) (p ∷ [])) → ((x : TypedExpr) → Has (g (x ∷ []))) → Has (then (fit_all (t ∷ []) (p ∷ [])) g)
+has_one : (t : TypeTree) (p : Part) (g : List TypedExpr → Option Value) → IsTyped p → Empty (unfit_all (t ∷ []) (p ∷ [])) → ((x : TypedExpr) → Has (g (x ∷ []))) → Has (and_then (fit_all (t ∷ []) (p ∷ [])) g)
 has_one t p g h e k = from (fit t p) (has_fit t p h (empty_left (unfit t p) _ e))
   where
-    from : (o : Option TypedExpr) → Has o → Has (then (then o (λ x. Some (x ∷ []))) g)
+    from : (o : Option TypedExpr) → Has o → Has (and_then (and_then o (λ x. Some (x ∷ []))) g)
     from None h = absurd h
     from (Some x) h = k x
 
-has_two : (t u : TypeTree) (p q : Part) (g : List TypedExpr → Option Value) → IsTyped p → IsTyped q → Empty (unfit_all (t ∷ u ∷ []) (p ∷ q ∷ [])) → ((x y : TypedExpr) → Has (g (x ∷ y ∷ []))) → Has (then (fit_all (t ∷ u ∷ []) (p ∷ q ∷ [])) g)
+has_two : (t u : TypeTree) (p q : Part) (g : List TypedExpr → Option Value) → IsTyped p → IsTyped q → Empty (unfit_all (t ∷ u ∷ []) (p ∷ q ∷ [])) → ((x y : TypedExpr) → Has (g (x ∷ y ∷ []))) → Has (and_then (fit_all (t ∷ u ∷ []) (p ∷ q ∷ [])) g)
 has_two t u p q g h i e k = from (fit t p) (fit u q) (has_fit t p h (empty_left (unfit t p) _ e)) (has_fit u q i (empty_left (unfit u q) _ (empty_right (unfit t p) _ e)))
   where
-    from : (a b : Option TypedExpr) → Has a → Has b → Has (then (then a (λ x. then (then b (λ y. Some (y ∷ []))) (λ others. Some (x ∷ others)))) g)
+    from : (a b : Option TypedExpr) → Has a → Has b → Has (and_then (and_then a (λ x. and_then (and_then b (λ y. Some (y ∷ []))) (λ others. Some (x ∷ others)))) g)
     from None b h i = absurd h
     from (Some x) None h i = absurd i
     from (Some x) (Some y) h i = k x y

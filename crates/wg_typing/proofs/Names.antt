@@ -5,12 +5,12 @@ use Rattle.std.specs.Option.{option_or}
 use Rattle.std.specs.Str.{bytes_eq}
 use Rattle.wg_words.specs.declared.place.Place.{Place}
 use Rattle.wg_typing.specs.Conversions.{is_number}
-use Rattle.wg_typing.specs.Maybe.{then, where_true}
+use Rattle.wg_typing.specs.Maybe.{and_then, where_true}
 use Rattle.wg_typing.specs.RulesMismatchExpr.{unfit_name}
 use Rattle.wg_typing.specs.RulesUnknownName.{is_no_value, unknown_value, is_no_struct, unknown_type}
 use Rattle.wg_typing.specs.Scope.{Context, Around, in_entry, in_plain, in_const, look, struct_if, named_type}
-use Rattle.wg_typing.specs.SiteTree.{at_if}
-use Rattle.wg_typing.specs.TypingCallee.{Callee, plain, entry, itself, builtin, broken, unknown, Builtin, builtin_if, callee_of, callee}
+use Rattle.wg_typing.specs.Sites.{at_if}
+use Rattle.wg_typing.specs.TypingCallee.{CalledName, plain, entry, itself, builtin, broken, unknown, Builtin, builtin_if, callee_of, callee}
 use Rattle.wg_typing.specs.TypingName.{name_value, const_name, named_value}
 use Rattle.wg_typing.specs.TypingOperators.{zeros_value}
 use Rattle.wg_tree.specs.declared.expr.Named.{Named}
@@ -135,7 +135,7 @@ has_type c (type_name.Struct name) s h = has_struct name.place (look name.name c
 
 -- ---- called names
 
-abbrev pub Called : Callee → Type 0
+abbrev pub Called : CalledName → Type 0
 Called (plain number result parameters chain) = Unit {0}
 Called entry = Unit {0}
 Called itself = Unit {0}
@@ -165,7 +165,7 @@ is_called c name s = callee_called (look name.name c.names) _ (look_stands name.
 
 -- ---- what becomes a name's meaning
 
-pub then_stands : {A : Type 0} (o : Option A) (f : A → Option Meant) → ((a : A) → StandsIf (f a)) → StandsIf (then o f)
+pub then_stands : {A : Type 0} (o : Option A) (f : A → Option Meant) → ((a : A) → StandsIf (f a)) → StandsIf (and_then o f)
 then_stands None f k = tt
 then_stands (Some a) f k = k a
 

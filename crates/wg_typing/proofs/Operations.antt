@@ -2,12 +2,12 @@
 use Rattle.std.proofs.Common.{◌≡◌, Bool, true, false, not, cond, List, [], ◌∷◌, ◌++◌, Option, Some, refl, sym, ◌∙◌, subst}
 use Rattle.std.specs.Prelude.{◌&&◌, is_none}
 use Rattle.wg_words.specs.declared.place.Place.{Place}
-use Rattle.wg_typing.specs.Conversions.{Numbers, numbers, type_of, size_fits, fits, is_number, truth_type, chosen, class_of, suits, Operation, operation_on}
+use Rattle.wg_typing.specs.Conversions.{Numbers, numbers, type_of, size_fits, fits, is_number, truth_type, common_numbers, class_of, suits, Operation, operation_on}
 use Rattle.wg_typing.specs.Layers.{LinkLayer, Part, TypedPart, typed_part, convert, fit}
-use Rattle.wg_typing.specs.Maybe.{then, where_true}
+use Rattle.wg_typing.specs.Maybe.{and_then, where_true}
 use Rattle.wg_typing.specs.RulesMismatchExpr.{clash, clash_on, clash_if, unfit_link, choice_of, unfit_results, unfit_choice}
 use Rattle.wg_typing.specs.RulesShared.{links_parts, failing, unfit}
-use Rattle.wg_typing.specs.SiteTree.{at_if}
+use Rattle.wg_typing.specs.Sites.{at_if}
 use Rattle.wg_typing.specs.TypingOperators.{prefix_type, prefix_value, cast_value, choice_value, suited, run_on, run_type, chain_links, chain_type, chain_value, over_links, typed_of}
 use Rattle.wg_tree.specs.declared.expr.BinaryOperator.{BinaryOperator}
 use Rattle.wg_tree.specs.declared.expr.PrefixOperator.{PrefixOperator}
@@ -54,13 +54,13 @@ pub has_choice : (place : Place) (test a b : Part) → IsTyped test → IsTyped 
 has_choice place test a b h k l e f = has_then (fit truth_type test) _ (has_fit truth_type test h e) (λ x q. has_then (typed_part a) _ k (λ s r. has_then (typed_part b) _ l (λ t u.
     let g = results place s t (subst (λ z. Empty (unfit_choice place (Some s) z)) u (subst (λ z. Empty (unfit_choice place z (typed_part b))) r f)) in
     has_then (numbers s.of) _ (has_numbers s.of g.first) (λ m v. has_then (numbers t.of) _ (has_numbers t.of g.second) (λ n w.
-    has_then (chosen m n) _ (chosen_has s t m n v w g.together) (λ c y.
+    has_then (common_numbers m n) _ (chosen_has s t m n v w g.together) (λ c y.
     let d = chosen_fits m n c y in
     has_then (convert (type_of c) s) _ (has_convert (type_of c) s (fits_sized s.of m c v d.0)) (λ i j.
     has_then (convert (type_of c) t) _ (has_convert (type_of c) t (fits_sized t.of n c w d.1)) (λ o p. tt)))))))
     )
   where
-    chosen_has : (s t : TypedPart) (m n : Numbers) → numbers s.of ≡ Some m → numbers t.of ≡ Some n → Has (choice_of (numbers s.of) (numbers t.of)) → Has (chosen m n)
+    chosen_has : (s t : TypedPart) (m n : Numbers) → numbers s.of ≡ Some m → numbers t.of ≡ Some n → Has (choice_of (numbers s.of) (numbers t.of)) → Has (common_numbers m n)
     chosen_has s t m n v w h = subst (λ z. Has (choice_of (Some m) z)) w (subst (λ z. Has (choice_of z (numbers t.of))) v h)
 
 -- ---- two-sided operators
@@ -123,5 +123,5 @@ chained whole of (l ∷ rest) h e =
 
 pub has_chain : (place : Place) (first : Part) (rest : List (LinkLayer Part)) → IsTyped first → AllTyped (links_parts rest) → Empty (over_links (unfit_link place) (typed_of first) rest) → Has (chain_value place first rest)
 has_chain place first rest h k e = has_then (typed_part first) _ h (λ t q.
-    let c = chained place t.of rest k (subst (λ x. Empty (over_links (unfit_link place) (then x (λ t. Some t.of)) rest)) q e) in
+    let c = chained place t.of rest k (subst (λ x. Empty (over_links (unfit_link place) (and_then x (λ t. Some t.of)) rest)) q e) in
     has_then (chain_links (Some t.of) rest) _ c.links (λ a r. has_then (chain_type (Some t.of) rest) _ c.last (λ b s. tt)))

@@ -4,11 +4,11 @@ use Rattle.std.specs.Prelude.{◌&&◌, ◌==◌}
 use Rattle.wg_words.specs.declared.place.Place.{Place}
 use Rattle.wg_typing.specs.Conversions.{Numbers, numbers, type_of, size_fits, fits, is_number, truths, of_value_type, chosen_scalar}
 use Rattle.wg_typing.specs.Layers.{Part, TypedPart, typed_part, all_typed_parts, convert, fixed}
-use Rattle.wg_typing.specs.Maybe.{then, where_true}
-use Rattle.wg_typing.specs.RulesArity.{other_count, miscounted_components}
+use Rattle.wg_typing.specs.Maybe.{and_then, where_true}
+use Rattle.wg_typing.specs.RulesWrongArity.{other_count, miscounted_components}
 use Rattle.wg_typing.specs.RulesMismatchCall.{unfit_together, unfit_intrinsic}
 use Rattle.wg_typing.specs.RulesShared.{failing, each_failing}
-use Rattle.wg_typing.specs.SiteTree.{at_if}
+use Rattle.wg_typing.specs.Sites.{at_if}
 use Rattle.wg_typing.specs.TypingConstructor.{component_count, components, constructed}
 use Rattle.wg_typing.specs.TypingIntrinsic.{Reckons, in_common, in_uint, to_one_truth, in_truths, choosing, reckons, arity_of, argument_suits, all_suit, size_of_all, Signature, chosen_of_size, signature, signature_on, all_numbers, convert_all, intrinsic_value}
 use Rattle.wg_tree.specs.declared.expr.ValueType.{ValueType}
@@ -172,13 +172,13 @@ has_intrinsic name i parts h l e = has_then (all_typed_parts parts) _ (has_all_p
     faults : Empty (each_failing (λ t. argument_suits (reckons i) t.of) parts ++ unfit_together name i (all_typed_parts parts))
     faults = empty_if (length parts == arity_of i) _ l e
 
-    typed : (ts : List TypedPart) → all_typed_parts parts ≡ Some ts → Has (then (then (where_true ((length ts == arity_of i) && all_suit (reckons i) ts) ts) (signature_on i)) (λ s. then (convert_all s.arguments ts) (λ arguments. fixed name (type_of s.result) (tree.Intrinsic i arguments))))
+    typed : (ts : List TypedPart) → all_typed_parts parts ≡ Some ts → Has (and_then (and_then (where_true ((length ts == arity_of i) && all_suit (reckons i) ts) ts) (signature_on i)) (λ s. and_then (convert_all s.arguments ts) (λ arguments. fixed name (type_of s.result) (tree.Intrinsic i arguments))))
     typed ts q =
         let s = shown parts ts q in
         let suit = shown_suit (reckons i) parts ts s (empty_left _ (unfit_together name i (all_typed_parts parts)) faults) in
         let counted = ap (λ (n : ℕ). n == arity_of i) (shown_length parts ts s) ∙ l in
         let whole = through_where ((length ts == arity_of i) && all_suit (reckons i) ts) ts (signature_on i) (both _ _ counted suit) in
-        has_then (then (where_true ((length ts == arity_of i) && all_suit (reckons i) ts) ts) (signature_on i)) _ (subst Has (sym whole) (together name i (all_typed_parts parts) ts q suit (empty_right (each_failing (λ t. argument_suits (reckons i) t.of) parts) _ faults)))
+        has_then (and_then (where_true ((length ts == arity_of i) && all_suit (reckons i) ts) ts) (signature_on i)) _ (subst Has (sym whole) (together name i (all_typed_parts parts) ts q suit (empty_right (each_failing (λ t. argument_suits (reckons i) t.of) parts) _ faults)))
         (λ g p.
         let a = then_some (all_numbers ts) _ g (sym whole ∙ p) in
         has_then (convert_all g.arguments ts) _ (has_convert_all g.arguments ts (signature_converts (reckons i) ts a.0 g (numbered ts a.0 a.1) a.2)) (λ arguments f. tt))
@@ -189,15 +189,15 @@ value_numbers : (of : ValueType) → Has (numbers (of_value_type of))
 value_numbers (value_type.Scalar of) = tt
 value_numbers (value_type.Vector of n) = tt
 
-counted : (goal : Option Numbers) (n : Numbers) (o : Option (List TypedPart)) (ts : List TypedPart) (ns : List Numbers) (place : Place) → goal ≡ Some n → o ≡ Some ts → all_numbers ts ≡ Some ns → Empty (at_if (other_count goal (then o all_numbers)) place)
+counted : (goal : Option Numbers) (n : Numbers) (o : Option (List TypedPart)) (ts : List TypedPart) (ns : List Numbers) (place : Place) → goal ≡ Some n → o ≡ Some ts → all_numbers ts ≡ Some ns → Empty (at_if (other_count goal (and_then o all_numbers)) place)
     → (component_count ns == components n.size) ≡ true
-counted goal n o ts ns place g e f h = not_false _ (is_false _ place (subst (λ x. Empty (at_if (other_count (Some n) x) place)) f (subst (λ x. Empty (at_if (other_count (Some n) (then x all_numbers)) place)) e (subst (λ x. Empty (at_if (other_count x (then o all_numbers)) place)) g h))))
+counted goal n o ts ns place g e f h = not_false _ (is_false _ place (subst (λ x. Empty (at_if (other_count (Some n) x) place)) f (subst (λ x. Empty (at_if (other_count (Some n) (and_then x all_numbers)) place)) e (subst (λ x. Empty (at_if (other_count x (and_then o all_numbers)) place)) g h))))
 
-pub has_constructed : (place : Place) (of : ValueType) (parts : List Part) → AllTyped parts → Empty (each_failing (λ t. is_number t.of) parts) → Empty (miscounted_components place (numbers (of_value_type of)) parts) → Has (then (numbers (of_value_type of)) (λ goal. constructed place goal parts))
+pub has_constructed : (place : Place) (of : ValueType) (parts : List Part) → AllTyped parts → Empty (each_failing (λ t. is_number t.of) parts) → Empty (miscounted_components place (numbers (of_value_type of)) parts) → Has (and_then (numbers (of_value_type of)) (λ goal. constructed place goal parts))
 has_constructed place of parts h e m = has_then (numbers (of_value_type of)) _ (value_numbers of) (λ goal g. has_then (all_typed_parts parts) _ (has_all_parts parts h) (λ ts q.
     has_then (all_numbers ts) _ (has_all_numbers ts (shown_numbers (λ t. is_number t.of) parts ts (λ t k. k) (shown parts ts q) e)) (λ ns p.
     let right = counted (numbers (of_value_type of)) goal (all_typed_parts parts) ts ns place g q p m in
-    has_then (then (where_true (component_count ns == components goal.size) ns) (λ ns. convert_all (map (λ n. record { of = goal.of; size = n.size }) ns) ts)) _
+    has_then (and_then (where_true (component_count ns == components goal.size) ns) (λ ns. convert_all (map (λ n. record { of = goal.of; size = n.size }) ns) ts)) _
     (has_through (component_count ns == components goal.size) ns (λ ns. convert_all (map (λ n. record { of = goal.of; size = n.size }) ns) ts) right
     (has_convert_all _ ts (converts_each (λ n. record { of = goal.of; size = n.size }) ts ns (λ n. size_same n.size) (numbered ts ns p))))
     (λ trees r. tt))))

@@ -1,18 +1,18 @@
 -- Sites at which no rule is broken.
 use Rattle.std.proofs.Common.{inl, inr, refl}
 use Rattle.wg_words.specs.declared.place.Place.{Place}
-use Rattle.wg_typing.specs.SiteTree.{Sites, only, ◌&◌}
-use Rattle.wg_typing.specs.Sites.{Site}
-use Rattle.wg_typing.specs.Typing.{Rule, places, BrokenAt}
+use Rattle.wg_typing.specs.Sites.{Sites, only, ◌&◌}
+use Rattle.wg_typing.specs.Site.{Site}
+use Rattle.wg_typing.specs.Typing.{TypingRule, places, BrokenAt}
 use Rattle.wg_typing.proofs.Facts.{Empty, none_in}
 
 -- a site breaks no rule
 pub record Clear (s : Site) : Type 0 where
-  pub clear : (rule : Rule) → Empty (places rule s)
+  pub clear : (rule : TypingRule) → Empty (places rule s)
 
 -- no site of these breaks a rule
 pub record Well (all : Sites Site) : Type 0 where
-  pub well : (rule : Rule) (p : Place) → BrokenAt rule p all → ⊥
+  pub well : (rule : TypingRule) (p : Place) → BrokenAt rule p all → ⊥
 
 pub well_left : {a b : Sites Site} → Well (a & b) → Well a
 well_left h = record { well = λ rule p q. h.well rule p (record { site = q.site; stands = inl q.stands; breaks = q.breaks }) }

@@ -4,21 +4,21 @@ use Rattle.std.specs.Prelude.{◌&&◌}
 use Rattle.wg_words.specs.declared.place.Place.{Place}
 use Rattle.wg_typing.specs.Conversions.{type_of, fits, is_number, Operation}
 use Rattle.wg_typing.specs.Layers.{Part, TypedPart, typed_at, typed_part, convert, fit}
-use Rattle.wg_typing.specs.Maybe.{then, where_true}
+use Rattle.wg_typing.specs.Maybe.{and_then, where_true}
 use Rattle.wg_typing.specs.RulesActs.{step_takes_collective}
 use Rattle.wg_typing.specs.RulesMismatch.{unfit_wanted, unfit_back, both_suit, unfit_typed_update, unfit_update, unfit_assigned, unfit_alone}
 use Rattle.wg_typing.specs.RulesMismatchExpr.{clash_on}
 use Rattle.wg_typing.specs.RulesNotAssignable.{fixed_target, fixed_part}
-use Rattle.wg_typing.specs.RulesOutputCall.{stands}
+use Rattle.wg_typing.specs.RulesBadOutputCall.{stands}
 use Rattle.wg_typing.specs.RulesShared.{no_value, act_at, output_used, sync_used, unfit, failing}
 use Rattle.wg_typing.specs.TypingActs.{is_output_act, is_syncing}
 use Rattle.wg_typing.specs.Scope.{Context, collective_here}
-use Rattle.wg_typing.specs.SiteTree.{at_if}
+use Rattle.wg_typing.specs.Sites.{at_if}
 use Rattle.wg_typing.specs.Typing.{Mismatch, NotAssignable, BadBarrier, BadOutputCall}
 use Rattle.wg_typing.specs.TypingExpr.{part}
 use Rattle.wg_typing.specs.TypingInterlocked.{is_fixed}
 use Rattle.wg_typing.specs.TypingOperators.{suited}
-use Rattle.wg_typing.specs.TypingStep.{Did, a_step, an_act, evaluated, operator_of, target_of, updated, assigned, changed, step_did, step_sites, own_handle, step_stmt, did_in_header, header_trees, header_sites}
+use Rattle.wg_typing.specs.TypingStep.{Did, a_step, an_act, evaluated, operator_of, assignable_target, updated, assigned, changed, step_did, step_sites, own_handle, step_stmt, did_in_header, header_trees, header_sites}
 use Rattle.wg_tree.specs.declared.expr.BinaryOperator.{BinaryOperator}
 use Rattle.wg_tree.specs.declared.stmt.Step.{Step}
 use Rattle.wg_tree.specs.declared.stmt.Step.TheVariants as step
@@ -36,7 +36,7 @@ use Rattle.wg_typing.proofs.Sites.{Well, well_left, well_only, well_right}
 
 -- ---- targets
 
-target_has : (p : Place) (v : Option Value) → Has v → Empty (fixed_target p v) → Empty (act_at is_output_act v) → Empty (act_at is_syncing v) → Has (then (typed_at p v) (λ t. where_true (not (is_fixed t.standing)) t))
+target_has : (p : Place) (v : Option Value) → Has v → Empty (fixed_target p v) → Empty (act_at is_output_act v) → Empty (act_at is_syncing v) → Has (and_then (typed_at p v) (λ t. where_true (not (is_fixed t.standing)) t))
 target_has p None h f o s = absurd h
 target_has p (Some (value.Typed of standing tree)) h f o s = has_where (not (is_fixed standing)) _ (changes (is_fixed standing) p f)
   where
@@ -52,10 +52,10 @@ target_has p (Some (value.Act name (act.Request group output number element amou
 target_has p (Some (value.Act name (act.Increment group output element amount))) h f o s = absurd o
 target_has p (Some (value.Act name (act.Complete handle))) h f o s = absurd o
 
-has_target : (p : Part) → Whole p → Empty (fixed_part p) → Empty (output_used p) → Empty (sync_used p) → Has (target_of p)
+has_target : (p : Part) → Whole p → Empty (fixed_part p) → Empty (output_used p) → Empty (sync_used p) → Has (assignable_target p)
 has_target p = target_has p.place p.value
 
-target_typed : (p : Part) (t : TypedPart) → target_of p ≡ Some t → typed_part p ≡ Some t
+target_typed : (p : Part) (t : TypedPart) → assignable_target p ≡ Some t → typed_part p ≡ Some t
 target_typed p t e =
     let a = then_some (typed_part p) _ t e in
     a.1 ∙ ap Some (where_same (not (is_fixed a.0.standing)) a.0 t a.2)
@@ -67,13 +67,13 @@ Steps None = ⊥
 Steps (Some (a_step s)) = Unit {0}
 Steps (Some (an_act a)) = ⊥
 
-then_steps : {A : Type 0} (o : Option A) (f : A → Option Did) → Has o → ((a : A) → o ≡ Some a → Steps (f a)) → Steps (then o f)
+then_steps : {A : Type 0} (o : Option A) (f : A → Option Did) → Has o → ((a : A) → o ≡ Some a → Steps (f a)) → Steps (and_then o f)
 then_steps None f h k = absurd h
 then_steps (Some a) f h k = k a refl
 
 assigned_steps : (target v : Part) → Whole target → Whole v → Empty (fixed_part target) → Empty (output_used target) → Empty (sync_used target) → Empty (output_used v) → Empty (sync_used v) → Empty (unfit_assigned None target v) → Steps (assigned None target v)
-assigned_steps target v h k f o s p r e = then_steps (target_of target) _ (has_target target h f o s) (λ to q.
-    let faults : Empty (no_value v ++ unfit to.of v) = subst (λ x. Empty (unfit_wanted (then x (λ t. Some t.of)) v)) (target_typed target to q) e in
+assigned_steps target v h k f o s p r e = then_steps (assignable_target target) _ (has_target target h f o s) (λ to q.
+    let faults : Empty (no_value v ++ unfit to.of v) = subst (λ x. Empty (unfit_wanted (and_then x (λ t. Some t.of)) v)) (target_typed target to q) e in
     then_steps (fit to.of v) _ (has_fit to.of v (part_typed v k (empty_left (no_value v) _ faults) p r) (empty_right (no_value v) _ faults)) (λ from i. tt))
 
 updated_steps : (operator : BinaryOperator) (target v : TypedPart) → Empty (unfit_typed_update operator target v) → Steps (updated operator target v)
@@ -89,7 +89,7 @@ updated_steps operator target v e = then_steps (suited operator target.of v.of) 
         (empty_if (both_suit operator target v) _ (both _ _ fitting.first fitting.second) (empty_right (clash_on target.place operator target.place target.of v) _ e))))
 
 update_steps : (operator : BinaryOperator) (target v : Part) → Whole target → Whole v → Empty (fixed_part target) → Empty (output_used target) → Empty (sync_used target) → Empty (output_used v) → Empty (sync_used v) → Empty (unfit_assigned (Some operator) target v) → Steps (assigned (Some operator) target v)
-update_steps operator target v h k f o s p r e = then_steps (target_of target) _ (has_target target h f o s) (λ to q.
+update_steps operator target v h k f o s p r e = then_steps (assignable_target target) _ (has_target target h f o s) (λ to q.
     then_steps (typed_part v) _ (part_typed v k (empty_left (no_value v) _ e) p r) (λ from i.
     updated_steps operator to from (subst (λ x. Empty (unfit_update operator (Some to) x)) i (subst (λ x. Empty (unfit_update operator x (typed_part v))) (target_typed target to q) (empty_right (no_value v) _ e)))))
 
@@ -98,7 +98,7 @@ any_assigned None target v h k f o s e = assigned_steps target v h k f (empty_le
 any_assigned (Some operator) target v h k f o s e = update_steps operator target v h k f (empty_left (output_used target) _ o) (empty_left (sync_used target) _ s) (empty_right (output_used target) _ o) (empty_right (sync_used target) _ s) e
 
 changed_steps : (operator : StepOperator) (target : Part) → Whole target → Empty (fixed_part target) → Empty (output_used target) → Empty (sync_used target) → Empty (failing (λ t. is_number t.of) (typed_part target)) → Steps (changed operator target)
-changed_steps operator target h f o s e = then_steps (target_of target) _ (has_target target h f o s) (λ to q. step_where (is_number to.of) _ (passes_test (λ t. is_number t.of) (typed_part target) to (target_typed target to q) e))
+changed_steps operator target h f o s e = then_steps (assignable_target target) _ (has_target target h f o s) (λ to q. step_where (is_number to.of) _ (passes_test (λ t. is_number t.of) (typed_part target) to (target_typed target to q) e))
   where
     step_where : (b : Bool) (s : TypedStep) → b ≡ true → Steps (where_true b (a_step s))
     step_where true s e = tt
@@ -125,19 +125,19 @@ other_steps c header (step.After target operator place) n h i =
     let here = well_only (well_right h) in
     changed_steps operator (part c target) (has_value c n target (well_left h)) (here.clear NotAssignable) (empty_left (output_used (part c target)) _ (here.clear BadOutputCall)) (empty_left (sync_used (part c target)) _ (here.clear BadBarrier)) (here.clear Mismatch)
 
-steps_stmt : (c : Context) (o : Option Did) → Steps o → Has (then o (step_stmt c))
+steps_stmt : (c : Context) (o : Option Did) → Steps o → Has (and_then o (step_stmt c))
 steps_stmt c None h = absurd h
 steps_stmt c (Some (a_step s)) h = tt
 steps_stmt c (Some (an_act a)) h = absurd h
 
-steps_in_header : (o : Option Did) → Steps o → Has (then o did_in_header)
+steps_in_header : (o : Option Did) → Steps o → Has (and_then o did_in_header)
 steps_in_header None h = absurd h
 steps_in_header (Some (a_step s)) h = tt
 steps_in_header (Some (an_act a)) h = absurd h
 
 -- ---- calls as statements
 
-evaluated_stmt : (c : Context) (p : Place) (v : Option Value) → Has v → Empty (unfit_alone p v) → Empty (act_at (λ a. not (stands c false a)) v) → Empty (cond (step_takes_collective c false) [] (act_at is_syncing v)) → Has (then (evaluated v) (step_stmt c))
+evaluated_stmt : (c : Context) (p : Place) (v : Option Value) → Has v → Empty (unfit_alone p v) → Empty (act_at (λ a. not (stands c false a)) v) → Empty (cond (step_takes_collective c false) [] (act_at is_syncing v)) → Has (and_then (evaluated v) (step_stmt c))
 evaluated_stmt c p None h e o s = absurd h
 evaluated_stmt c p (Some (value.Typed of standing tree)) h e o s = tt
 evaluated_stmt c p (Some (value.Object object)) h e o s = absurd e
@@ -149,7 +149,7 @@ evaluated_stmt c p (Some (value.Act name (act.Request group output number elemen
 evaluated_stmt c p (Some (value.Act name (act.Increment group output element amount))) h e o s = has_where (collective_here c) _ (not_false (collective_here c) (is_false _ name o))
 evaluated_stmt c p (Some (value.Act name (act.Complete handle))) h e o s = has_where (collective_here c && own_handle c handle) _ (not_false (collective_here c && own_handle c handle) (is_false _ name o))
 
-evaluated_in_header : (c : Context) (p : Place) (v : Option Value) → Has v → Empty (unfit_alone p v) → Empty (act_at (λ a. not (stands c true a)) v) → Empty (act_at is_syncing v) → Has (then (evaluated v) did_in_header)
+evaluated_in_header : (c : Context) (p : Place) (v : Option Value) → Has v → Empty (unfit_alone p v) → Empty (act_at (λ a. not (stands c true a)) v) → Empty (act_at is_syncing v) → Has (and_then (evaluated v) did_in_header)
 evaluated_in_header c p None h e o s = absurd h
 evaluated_in_header c p (Some (value.Typed of standing tree)) h e o s = tt
 evaluated_in_header c p (Some (value.Object object)) h e o s = absurd e
@@ -163,7 +163,7 @@ evaluated_in_header c p (Some (value.Act name (act.Complete handle))) h e o s = 
 
 -- ---- steps
 
-pub has_step : (c : Context) (s : Step) → Sound c → Well (step_sites c false s) → Has (then (step_did c s) (step_stmt c))
+pub has_step : (c : Context) (s : Step) → Sound c → Well (step_sites c false s) → Has (and_then (step_did c s) (step_stmt c))
 has_step c (step.Evaluate e) n h =
     let here = well_only (well_right h) in
     evaluated_stmt c (part c e).place (part c e).value (has_value c n e (well_left h)) (here.clear Mismatch) (here.clear BadOutputCall) (here.clear BadBarrier)
@@ -171,7 +171,7 @@ has_step c (step.Assign target operator place v) n h = steps_stmt c _ (other_ste
 has_step c (step.Before place operator target) n h = steps_stmt c _ (other_steps c false (step.Before place operator target) n h tt)
 has_step c (step.After target operator place) n h = steps_stmt c _ (other_steps c false (step.After target operator place) n h tt)
 
-step_in_header : (c : Context) (s : Step) → Sound c → Well (step_sites c true s) → Has (then (step_did c s) did_in_header)
+step_in_header : (c : Context) (s : Step) → Sound c → Well (step_sites c true s) → Has (and_then (step_did c s) did_in_header)
 step_in_header c (step.Evaluate e) n h =
     let here = well_only (well_right h) in
     evaluated_in_header c (part c e).place (part c e).value (has_value c n e (well_left h)) (here.clear Mismatch) (here.clear BadOutputCall) (here.clear BadBarrier)
@@ -181,4 +181,4 @@ step_in_header c (step.After target operator place) n h = steps_in_header _ (oth
 
 pub has_header : (c : Context) (steps : List Step) → Sound c → Well (header_sites c steps) → Has (header_trees c steps)
 has_header c [] n h = tt
-has_header c (s ∷ rest) n h = has_then (then (step_did c s) did_in_header) _ (step_in_header c s n (well_left h)) (λ a q. has_then (header_trees c rest) _ (has_header c rest n (well_right h)) (λ b r. tt))
+has_header c (s ∷ rest) n h = has_then (and_then (step_did c s) did_in_header) _ (step_in_header c s n (well_left h)) (λ a q. has_then (header_trees c rest) _ (has_header c rest n (well_right h)) (λ b r. tt))

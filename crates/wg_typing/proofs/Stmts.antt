@@ -7,9 +7,9 @@ use Rattle.wg_typing.specs.Maybe.{if_there}
 use Rattle.wg_typing.specs.RulesActs.{maybe_used}
 use Rattle.wg_typing.specs.RulesMismatch.{unfit_return, maybe_part}
 use Rattle.wg_typing.specs.RulesShared.{is_typed, no_value, output_used, sync_used}
-use Rattle.wg_typing.specs.Scope.{Context, Gives, nothing, a_value, unsure, enter, enter_loop, leave}
-use Rattle.wg_typing.specs.SiteTree.{only, at_if}
-use Rattle.wg_typing.specs.Sites.{AtJump}
+use Rattle.wg_typing.specs.Scope.{Context, GivesBack, nothing, a_value, unsure, enter, enter_loop, leave}
+use Rattle.wg_typing.specs.Sites.{only, at_if}
+use Rattle.wg_typing.specs.Site.{AtJump}
 use Rattle.wg_typing.specs.Typing.{Mismatch, BadBarrier, BadOutputCall, OutOfProfile}
 use Rattle.wg_typing.specs.TypingDeclaration.{declaration_trees}
 use Rattle.wg_typing.specs.TypingDeclared.{fit_in}
@@ -83,7 +83,7 @@ WholeIf c (Some e) = Whole (part c e)
 typed_nowhere : (p : Part) → IsTyped p → Empty (at_if (is_typed p) p.place) → ⊥
 typed_nowhere p t h = holds_nowhere (is_typed p) p.place (is_some_has (typed_part p) t) h
 
-has_return : (c : Context) (g : Gives) (place : Place) (e : Option Expr) → IsSure g → WholeIf c e → Empty (unfit_return g place (maybe_part c e)) → Empty (maybe_used output_used c e) → Empty (maybe_used sync_used c e) → Has (returned_tree c g e)
+has_return : (c : Context) (g : GivesBack) (place : Place) (e : Option Expr) → IsSure g → WholeIf c e → Empty (unfit_return g place (maybe_part c e)) → Empty (maybe_used output_used c e) → Empty (maybe_used sync_used c e) → Has (returned_tree c g e)
 has_return c nothing place None s w u o i = tt
 has_return c nothing place (Some e) s w u o i =
     absurd (typed_nowhere (part c e) (part_typed (part c e) w (empty_left (no_value (part c e)) _ u) o i) (empty_right (no_value (part c e)) _ u))

@@ -2,7 +2,7 @@
 use Rattle.std.proofs.Common.{◌≡◌, ℕ, Bool, true, false, Option, Some, None, refl, sym, ap, ◌∙◌, subst, arith}
 use Rattle.std.specs.Prelude.{◌==◌}
 use Rattle.std.proofs.lemmas.Grind.{common_steps}
-use Rattle.wg_typing.specs.Conversions.{Numbers, numbers, sized, type_of, same_type, size_fits, numbers_fit, fits, is_number, is_scalar, common_size, common, chosen, Class, arithmetic, shift, comparison, logic, suits, class_of, Operation, operation, operation_on, truths}
+use Rattle.wg_typing.specs.Conversions.{Numbers, numbers, sized, type_of, same_type, size_fits, numbers_fit, fits, is_number, is_scalar, common_size, common, common_numbers, Class, arithmetic, shift, comparison, logic, suits, class_of, Operation, operation, operation_on, truths}
 use Rattle.wg_typing.specs.Maybe.{where_true}
 use Rattle.wg_tree.specs.declared.expr.Scalar.{Scalar}
 use Rattle.wg_tree.specs.declared.expr.BinaryOperator.{BinaryOperator}
@@ -97,7 +97,7 @@ operation_on_fits op t u o s h =
 
 -- ---- `?:`
 
-pub chosen_fits : (a b c : Numbers) → chosen a b ≡ Some c → (size_fits a.size c.size ≡ true) × (size_fits b.size c.size ≡ true)
+pub chosen_fits : (a b c : Numbers) → common_numbers a b ≡ Some c → (size_fits a.size c.size ≡ true) × (size_fits b.size c.size ≡ true)
 chosen_fits a b c h =
     let d = then_some (common_size a.size b.size) _ c h in
     let q = some_value d.2 in

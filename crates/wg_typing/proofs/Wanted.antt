@@ -7,11 +7,11 @@ use Rattle.wg_typed.specs.Constants.{const_value}
 use Rattle.wg_typing.specs.Conversions.{uint_type, element_of, of_value_type}
 use Rattle.wg_typing.specs.Layers.{Part, typed_part}
 use Rattle.wg_typed.specs.Layout.{words_of}
-use Rattle.wg_typing.specs.RulesLimit.{size_below}
+use Rattle.wg_typing.specs.RulesLimitPassed.{size_below}
 use Rattle.wg_typing.specs.RulesMismatch.{unfit_wanted, unfit_const}
 use Rattle.wg_typing.specs.RulesShared.{is_typed, no_value}
 use Rattle.wg_typing.specs.Scope.{Context, as_const, known_names, look, struct_if, named_type}
-use Rattle.wg_typing.specs.Sites.{AtType}
+use Rattle.wg_typing.specs.Site.{AtType}
 use Rattle.wg_typing.specs.Typing.{UnknownName, Mismatch, LimitPassed, BadBarrier, BadOutputCall}
 use Rattle.wg_typing.specs.TypingDeclared.{type_limit, size_value, array_of, type_of_size, declared_type, limit_site, wanted_sites, fit_in, const_sites, size_sites, declared_sites}
 use Rattle.wg_typing.specs.TypingExpr.{part}

@@ -3,9 +3,9 @@ use Rattle.std.specs.Prelude.{Bool, not, ◌&&◌, ◌||◌, is_none, List, []}
 use Rattle.std.specs.List.{list_any}
 use Rattle.wg_words.specs.declared.place.Place.{Place}
 use Rattle.wg_typing.specs.AttributeArguments.{mode_of, has, in_mode, is_broadcasting, is_thread}
-use Rattle.wg_typing.specs.AttributeSites.{Site, AtAttribute, AtNode, AtInput, AtOutput, AtValue}
+use Rattle.wg_typing.specs.AttributeSites.{AttributeSite, AtAttribute, AtNode, AtInput, AtOutput, AtValue}
 use Rattle.wg_typing.specs.AttributeSystem.{is_grid_field, system_of}
-use Rattle.wg_typing.specs.SiteTree.{at_if}
+use Rattle.wg_typing.specs.Sites.{at_if}
 use Rattle.wg_typed.specs.declared.typed.TypedField.{TypedField}
 use Rattle.wg_typed.specs.declared.typed_stmt.TypedAttribute.{TypedAttribute}
 
@@ -22,7 +22,7 @@ abbrev pub output_lacks : Bool → List TypedAttribute → Bool
 output_lacks array attributes =
     not (has "MaxRecords" attributes || has "MaxRecordsSharedWith" attributes) || (array && not (has "NodeArraySize" attributes))
 
-abbrev pub missing_at : Site → List Place
+abbrev pub missing_at : AttributeSite → List Place
 missing_at (AtAttribute position before a) = []
 missing_at (AtNode f fields) = at_if (node_lacks f.attributes fields) f.name.place
 missing_at (AtInput mode word p) = []

@@ -5,9 +5,9 @@ use Rattle.wg_words.specs.declared.place.Place.{Place}
 use Rattle.wg_typing.specs.Maybe.{◌>>=◌, where_true}
 use Rattle.wg_tokens.specs.Characters.{is_letter, is_word}
 use Rattle.wg_typing.specs.AttributeArguments.{Mode, mode_named, has, is_one_text, product, in_mode, is_thread}
-use Rattle.wg_typing.specs.AttributeSites.{Site, AtAttribute, AtNode, AtInput, AtOutput, AtValue, Position, on_struct, on_node, on_plain, on_input, on_output, on_output_array, on_value, on_branch, Own, Kind, a_value, an_input, an_output, a_handle, kind_of}
+use Rattle.wg_typing.specs.AttributeSites.{AttributeSite, AtAttribute, AtNode, AtInput, AtOutput, AtValue, Position, on_struct, on_node, on_plain, on_input, on_output, on_output_array, on_value, on_branch, Own, Kind, a_value, an_input, an_output, a_handle, kind_of}
 use Rattle.wg_typing.specs.AttributeNames.{Name, shader, node_launch, num_threads, dispatch_grid, max_dispatch_grid, node_id, program_entry, max_recursion_depth, max_records, max_records_shared_with, node_array_size, allow_sparse_nodes, track_sharing, hint, standing}
-use Rattle.wg_typing.specs.SiteTree.{at_if}
+use Rattle.wg_typing.specs.Sites.{at_if}
 use Rattle.wg_typed.specs.declared.typed.TypedParameter.{TypedParameter}
 use Rattle.wg_typed.specs.declared.typed_stmt.ArgumentValue.{ArgumentValue}
 use Rattle.wg_typed.specs.declared.typed_stmt.ArgumentValue.TheVariants as argument
@@ -154,7 +154,7 @@ abbrev pub is_out_of_form : Position → List TypedArgument → Option Name → 
 is_out_of_form position arguments None = false
 is_out_of_form position arguments (Some name) = not (has_form position name arguments)
 
-abbrev pub range_at : Site → List Place
+abbrev pub range_at : AttributeSite → List Place
 range_at (AtAttribute position before a) = at_if (is_out_of_form position a.arguments (standing position a)) a.name.place
 range_at (AtNode f fields) = []
 range_at (AtInput mode word p) = []

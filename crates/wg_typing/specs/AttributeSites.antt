@@ -2,7 +2,7 @@
 -- shader function attributes, node inputs and node outputs).
 use Rattle.std.specs.Prelude.{ℕ, ◌+◌, Bool, true, false, if◌then◌else◌, List, [], ◌∷◌, ◌++◌, map, slice_get, Option, Some, None, unwrap_or}
 use Rattle.wg_typing.specs.Maybe.{where_true}
-use Rattle.wg_typing.specs.SiteTree.{Sites, nowhere, only, ◌&◌, all_sites}
+use Rattle.wg_typing.specs.Sites.{Sites, nowhere, only, ◌&◌, all_sites}
 use Rattle.wg_typing.specs.AttributeArguments.{Mode, mode_of, is_entry}
 use Rattle.wg_tree.specs.declared.stmt.ObjectWord.{ObjectWord}
 use Rattle.wg_tree.specs.declared.stmt.ObjectWord.TheVariants as object
@@ -38,17 +38,17 @@ pub data Position : Type 0 where
   -- `if`, `for` or `while`
   on_branch : Position
 
-pub data Site : Type 0 where
+pub data AttributeSite : Type 0 where
   -- an attribute, after these of the same list
-  AtAttribute : Position → List TypedAttribute → TypedAttribute → Site
+  AtAttribute : Position → List TypedAttribute → TypedAttribute → AttributeSite
   -- an entry function, and the fields of its input's record type
-  AtNode : TypedFunction → List TypedField → Site
+  AtNode : TypedFunction → List TypedField → AttributeSite
   -- an input, in the node's launch mode
-  AtInput : Option Mode → ObjectWord → TypedParameter → Site
+  AtInput : Option Mode → ObjectWord → TypedParameter → AttributeSite
   -- an output, and whether it is an array
-  AtOutput : Bool → TypedParameter → Site
+  AtOutput : Bool → TypedParameter → AttributeSite
   -- a parameter of a node that is no object, in the node's launch mode
-  AtValue : Option Mode → TypedParameter → Site
+  AtValue : Option Mode → TypedParameter → AttributeSite
 
 -- ---- kinds of parameters
 
@@ -106,17 +106,17 @@ record_fields structs (p ∷ rest) = unwrap_or (input_fields structs p.of) (reco
 
 -- ---- sites
 
-abbrev pub attribute_sites : Position → List TypedAttribute → List TypedAttribute → Sites Site
+abbrev pub attribute_sites : Position → List TypedAttribute → List TypedAttribute → Sites AttributeSite
 attribute_sites position before [] = nowhere
 attribute_sites position before (a ∷ rest) = only (AtAttribute position before a) & attribute_sites position (before ++ a ∷ []) rest
 
-abbrev pub sites_at : Position → List TypedAttribute → Sites Site
+abbrev pub sites_at : Position → List TypedAttribute → Sites AttributeSite
 sites_at position attributes = attribute_sites position [] attributes
 
-abbrev pub struct_sites : TypedStruct → Sites Site
+abbrev pub struct_sites : TypedStruct → Sites AttributeSite
 struct_sites s = sites_at on_struct s.attributes
 
-abbrev pub stmt_sites_step : TypedStmt-F (Sites Site) → Sites Site
+abbrev pub stmt_sites_step : TypedStmt-F (Sites AttributeSite) → Sites AttributeSite
 stmt_sites_step (TypedStmt-F.Block body) = all_sites body
 stmt_sites_step TypedStmt-F.Empty = nowhere
 stmt_sites_step (TypedStmt-F.Declare declared) = nowhere
@@ -133,14 +133,14 @@ stmt_sites_step (TypedStmt-F.If attributes collective test first (Some other)) =
 stmt_sites_step (TypedStmt-F.While attributes test body) = sites_at on_branch attributes & body
 stmt_sites_step (TypedStmt-F.For attributes start test steps body) = sites_at on_branch attributes & body
 
-abbrev pub stmt_sites : TypedStmt → Sites Site
-stmt_sites = fold-TypedStmt (Sites Site) stmt_sites_step
+abbrev pub stmt_sites : TypedStmt → Sites AttributeSite
+stmt_sites = fold-TypedStmt (Sites AttributeSite) stmt_sites_step
 
-abbrev pub body_sites : List TypedStmt → Sites Site
+abbrev pub body_sites : List TypedStmt → Sites AttributeSite
 body_sites body = all_sites (map stmt_sites body)
 
 -- a parameter of a node: its attributes, and what it must have itself
-abbrev pub parameter_sites : Option Mode → Own → TypedParameter → Kind → Sites Site
+abbrev pub parameter_sites : Option Mode → Own → TypedParameter → Kind → Sites AttributeSite
 parameter_sites mode here p a_value = sites_at on_value p.attributes & only (AtValue mode p)
 parameter_sites mode here p (an_input word) = sites_at (on_input mode) p.attributes & only (AtInput mode word p)
 parameter_sites mode here p (an_output false) = sites_at (on_output here) p.attributes & only (AtOutput false p)
@@ -148,27 +148,27 @@ parameter_sites mode here p (an_output true) = sites_at (on_output_array here) p
 parameter_sites mode here p a_handle = sites_at on_value p.attributes
 
 -- the parameters of a node from a number on
-abbrev pub parameters_sites : Option Mode → List TypedParameter → ℕ → List TypedParameter → Sites Site
+abbrev pub parameters_sites : Option Mode → List TypedParameter → ℕ → List TypedParameter → Sites AttributeSite
 parameters_sites mode all number [] = nowhere
 parameters_sites mode all number (p ∷ rest) =
     parameter_sites mode (record { parameters = all; number = number }) p (kind_of p.of) & parameters_sites mode all (number + 1) rest
 
-abbrev pub node_sites : List TypedStruct → TypedFunction → Sites Site
+abbrev pub node_sites : List TypedStruct → TypedFunction → Sites AttributeSite
 node_sites structs f =
     sites_at (on_node (mode_of f.attributes)) f.attributes
     & only (AtNode f (record_fields structs f.parameters))
     & parameters_sites (mode_of f.attributes) f.parameters 0 f.parameters
     & body_sites f.body
 
-abbrev pub plain_parameter_sites : TypedParameter → Sites Site
+abbrev pub plain_parameter_sites : TypedParameter → Sites AttributeSite
 plain_parameter_sites p = sites_at on_value p.attributes
 
-abbrev pub plain_sites : TypedFunction → Sites Site
+abbrev pub plain_sites : TypedFunction → Sites AttributeSite
 plain_sites f = sites_at on_plain f.attributes & all_sites (map plain_parameter_sites f.parameters) & body_sites f.body
 
 -- Only `Shader("node")` makes a function a node.
-abbrev pub function_sites : List TypedStruct → TypedFunction → Sites Site
+abbrev pub function_sites : List TypedStruct → TypedFunction → Sites AttributeSite
 function_sites structs f = if is_entry f.attributes then node_sites structs f else plain_sites f
 
-abbrev pub sites_of : Typed → Sites Site
+abbrev pub sites_of : Typed → Sites AttributeSite
 sites_of typed = all_sites (map struct_sites typed.structs) & all_sites (map (function_sites typed.structs) typed.functions)

@@ -4,9 +4,9 @@ use Rattle.std.specs.Str.{bytes_eq}
 use Rattle.std.specs.List.{list_any}
 use Rattle.wg_words.specs.declared.place.Place.{Place}
 use Rattle.wg_typing.specs.Named.{small}
-use Rattle.wg_typing.specs.AttributeSites.{Site, AtAttribute, AtNode, AtInput, AtOutput, AtValue, Position}
+use Rattle.wg_typing.specs.AttributeSites.{AttributeSite, AtAttribute, AtNode, AtInput, AtOutput, AtValue, Position}
 use Rattle.wg_typing.specs.AttributeNames.{Name, dispatch_grid, max_dispatch_grid, max_records, max_records_shared_with, standing}
-use Rattle.wg_typing.specs.SiteTree.{at_if}
+use Rattle.wg_typing.specs.Sites.{at_if}
 use Rattle.wg_typed.specs.declared.typed_stmt.TypedAttribute.{TypedAttribute}
 
 abbrev pub are_rivals : Name → Name → Bool
@@ -26,7 +26,7 @@ has_one_name a b = bytes_eq (map small a.name.name) (map small b.name.name)
 abbrev pub clashes : Position → TypedAttribute → TypedAttribute → Bool
 clashes position a b = has_one_name b a || rival_names (standing position b) (standing position a)
 
-abbrev pub twice_at : Site → List Place
+abbrev pub twice_at : AttributeSite → List Place
 twice_at (AtAttribute position before a) = at_if (list_any (clashes position a) before) a.name.place
 twice_at (AtNode f fields) = []
 twice_at (AtInput mode word p) = []

@@ -136,8 +136,8 @@ chosen_scalar a b = common_scalar a b
 abbrev pub common : Numbers → Numbers → Option Numbers
 common a b = common_size a.size b.size >>= (λ size. Some (record { of = common_scalar a.of b.of; size = size }))
 
-abbrev pub chosen : Numbers → Numbers → Option Numbers
-chosen a b = common_size a.size b.size >>= (λ size. Some (record { of = chosen_scalar a.of b.of; size = size }))
+abbrev pub common_numbers : Numbers → Numbers → Option Numbers
+common_numbers a b = common_size a.size b.size >>= (λ size. Some (record { of = chosen_scalar a.of b.of; size = size }))
 
 -- ---- operators
 

@@ -3,16 +3,16 @@ use Rattle.std.specs.Prelude.{ℕ, Bool, not, ◌&&◌, is_some, is_none, List, 
 use Rattle.wg_words.specs.declared.place.Place.{Place}
 use Rattle.wg_typing.specs.Conversions.{Operation, type_of, fits, is_number, class_of, suits, operation_on}
 use Rattle.wg_typed.specs.Constants.{const_value}
-use Rattle.wg_typing.specs.Scope.{as_const, known_names, Context, Gives, nothing, a_value, unsure}
+use Rattle.wg_typing.specs.Scope.{as_const, known_names, Context, GivesBack, nothing, a_value, unsure}
 use Rattle.wg_typing.specs.Layers.{Part, TypedPart, typed_part}
 use Rattle.wg_typing.specs.TypingOperators.{typed_of}
 use Rattle.wg_typing.specs.TypingExpr.{part}
 use Rattle.wg_typing.specs.TypingStep.{operator_of}
 use Rattle.wg_typing.specs.TypingHandle.{handle_word, request_in}
-use Rattle.wg_typing.specs.SiteTree.{at_if}
+use Rattle.wg_typing.specs.Sites.{at_if}
 use Rattle.wg_typing.specs.RulesShared.{is_typed, value_parts, no_value, each_part, failing, unfit}
 use Rattle.wg_typing.specs.TypingActs.{is_plain_act}
-use Rattle.wg_typing.specs.Sites.{Site, AtExpr, AtFlag, AtWanted, AtConst, AtStep, AtHandle, AtReturn, AtJump, AtType, AtName, AtSize, AtLocal, AtLimit, AtObject, AtFunction}
+use Rattle.wg_typing.specs.Site.{Site, AtExpr, AtFlag, AtWanted, AtConst, AtStep, AtHandle, AtReturn, AtJump, AtType, AtName, AtSize, AtLocal, AtLimit, AtObject, AtFunction}
 use Rattle.wg_typing.specs.RulesMismatchExpr.{clash_on, unfit_in}
 use Rattle.wg_tree.specs.declared.expr.BinaryOperator.{BinaryOperator}
 use Rattle.wg_tree.specs.declared.expr.Expr.{Expr}
@@ -83,7 +83,7 @@ unfit_handle group number place (Some (value.Text bytes)) = place ∷ []
 unfit_handle group number place None = []
 
 -- a value where nothing is given back, or none where one is
-abbrev pub unfit_return : Gives → Place → Option Part → List Place
+abbrev pub unfit_return : GivesBack → Place → Option Part → List Place
 unfit_return nothing place None = []
 unfit_return nothing place (Some p) = no_value p ++ at_if (is_typed p) p.place
 unfit_return (a_value of) place None = place ∷ []

@@ -6,11 +6,11 @@ use Rattle.wg_typing.specs.Conversions.{uint_type, same_type, fits, is_word}
 use Rattle.wg_typing.specs.Scope.{Context}
 use Rattle.wg_typing.specs.Layers.{Part, TypedPart, typed_part, all_typed_parts}
 use Rattle.wg_typing.specs.TypingInterlocked.{Operands, operands, raw_type}
-use Rattle.wg_typing.specs.TypingCallee.{Callee, plain, entry, itself, builtin, broken, unknown, Builtin, on_numbers, interlocked, levels, barrier, barrier_of}
+use Rattle.wg_typing.specs.TypingCallee.{CalledName, plain, entry, itself, builtin, broken, unknown, Builtin, on_numbers, interlocked, levels, barrier, barrier_of}
 use Rattle.wg_typing.specs.TypingIntrinsic.{arity_of, argument_suits, all_suit, reckons, signature_on}
 use Rattle.wg_typing.specs.TypingBarrier.{orders, syncs_of}
 use Rattle.wg_typing.specs.TypingOperators.{typed_of}
-use Rattle.wg_typing.specs.SiteTree.{at_if}
+use Rattle.wg_typing.specs.Sites.{at_if}
 use Rattle.wg_typing.specs.RulesShared.{where_typed, flags_whole, failing, each_failing, maybe_failing, unfit}
 use Rattle.wg_tree.specs.declared.item.Direction.{Direction}
 use Rattle.wg_tree.specs.declared.item.Direction.TheVariants as direction
@@ -83,7 +83,7 @@ unfit_in_builtin c name levels parts = []
 unfit_in_builtin c name (barrier syncs) parts = []
 unfit_in_builtin c name barrier_of parts = unfit_flags c parts
 
-abbrev pub unfit_call : Context → Place → Callee → List Part → List Place
+abbrev pub unfit_call : Context → Place → CalledName → List Part → List Place
 unfit_call c name (plain number result parameters chain) parts = if same_length parameters parts then where_typed parts (unfit_passed parameters parts) else []
 unfit_call c name entry parts = []
 unfit_call c name itself parts = []

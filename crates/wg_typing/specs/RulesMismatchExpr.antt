@@ -4,7 +4,7 @@ use Rattle.std.specs.Prelude.{Bool, true, false, not, ◌&&◌, is_none, List, [
 use Rattle.wg_words.specs.declared.place.Place.{Place}
 use Rattle.wg_typing.specs.Maybe.{◌>>=◌}
 use Rattle.wg_typing.specs.Named.{is_among}
-use Rattle.wg_typing.specs.Conversions.{Numbers, Operation, numbers, of_value_type, truth_type, uint_type, is_number, class_of, suits, operation_on, chosen}
+use Rattle.wg_typing.specs.Conversions.{Numbers, Operation, numbers, of_value_type, truth_type, uint_type, is_number, class_of, suits, operation_on, common_numbers}
 use Rattle.wg_typing.specs.Scope.{Context, Around, in_entry, in_plain, in_const, look}
 use Rattle.wg_typing.specs.Layers.{Layer, FormLayer, member, method, index, LinkLayer, Part, TypedPart, typed_part}
 use Rattle.wg_typing.specs.TypingObjects.{Method, method_of, takes, argument_types, has_elements}
@@ -12,7 +12,7 @@ use Rattle.wg_typing.specs.TypingObjects as m
 use Rattle.wg_typing.specs.TypingCallee.{callee}
 use Rattle.wg_typing.specs.TypingForms.{Along, at_typed, at_other, begun, over_forms}
 use Rattle.wg_typing.specs.TypingOperators.{over_links, typed_of}
-use Rattle.wg_typing.specs.SiteTree.{at_if}
+use Rattle.wg_typing.specs.Sites.{at_if}
 use Rattle.wg_typing.specs.RulesShared.{where_typed, failing, each_failing, unfit, unfit_all}
 use Rattle.wg_typing.specs.TypingActs.{is_plain_act}
 use Rattle.wg_typing.specs.RulesMismatchCall.{unfit_raw, unfit_call}
@@ -67,7 +67,7 @@ abbrev pub choice_of : Option Numbers → Option Numbers → Option Numbers
 choice_of a b = do
   m ← a
   n ← b
-  chosen m n
+  common_numbers m n
 
 abbrev pub unfit_results : Place → TypedPart → TypedPart → List Place
 unfit_results whole a b =

@@ -6,13 +6,13 @@ use Rattle.wg_typing.specs.Layers.{Layer, FormLayer, member, method, index, Part
 use Rattle.wg_typing.specs.TypingInterlocked.{Operands, operands, is_fixed, is_memory}
 use Rattle.wg_typing.specs.TypingObjects.{Method, method_of}
 use Rattle.wg_typing.specs.TypingObjects as m
-use Rattle.wg_typing.specs.TypingCallee.{Callee, plain, entry, itself, builtin, broken, unknown, Builtin, on_numbers, interlocked, levels, barrier, barrier_of, callee}
+use Rattle.wg_typing.specs.TypingCallee.{CalledName, plain, entry, itself, builtin, broken, unknown, Builtin, on_numbers, interlocked, levels, barrier, barrier_of, callee}
 use Rattle.wg_typing.specs.TypingForms.{Along, at_typed, at_other, begun, over_forms}
 use Rattle.wg_typing.specs.TypingExpr.{part}
-use Rattle.wg_typing.specs.SiteTree.{at_if}
+use Rattle.wg_typing.specs.Sites.{at_if}
 use Rattle.wg_typing.specs.RulesShared.{where_typed, failing, maybe_failing}
 use Rattle.wg_typing.specs.TypingActs.{is_plain_act}
-use Rattle.wg_typing.specs.Sites.{Site, AtExpr, AtFlag, AtWanted, AtConst, AtStep, AtHandle, AtReturn, AtJump, AtType, AtName, AtSize, AtLocal, AtLimit, AtObject, AtFunction}
+use Rattle.wg_typing.specs.Site.{Site, AtExpr, AtFlag, AtWanted, AtConst, AtStep, AtHandle, AtReturn, AtJump, AtType, AtName, AtSize, AtLocal, AtLimit, AtObject, AtFunction}
 use Rattle.wg_typing.specs.RulesMismatchCall.{is_given_back, same_length}
 use Rattle.wg_tree.specs.declared.expr.Expr.TheOpen.{Expr-F}
 use Rattle.wg_tree.specs.declared.stmt.Step.{Step}
@@ -53,7 +53,7 @@ fixed_in_builtin levels parts = []
 fixed_in_builtin (barrier syncs) parts = []
 fixed_in_builtin barrier_of parts = []
 
-abbrev pub fixed_argument : Callee → List Part → List Place
+abbrev pub fixed_argument : CalledName → List Part → List Place
 fixed_argument (plain number result parameters chain) parts = if same_length parameters parts then where_typed parts (fixed_passed parameters parts) else []
 fixed_argument entry parts = []
 fixed_argument itself parts = []

@@ -1,9 +1,9 @@
 -- NotCompleted: a handle without exactly one `OutputComplete`; the handle's name. Own.
 use Rattle.std.specs.Prelude.{◌==◌, not, List, [], ◌∷◌, ◌++◌}
 use Rattle.wg_words.specs.declared.place.Place.{Place}
-use Rattle.wg_typing.specs.SiteTree.{at_if}
-use Rattle.wg_typing.specs.Sites.{Site, AtExpr, AtFlag, AtWanted, AtConst, AtStep, AtHandle, AtReturn, AtJump, AtType, AtName, AtSize, AtLocal, AtLimit, AtObject, AtFunction, Event, declares, requests, completes, collective, returns, calls}
-use Rattle.wg_typing.specs.RulesOutputCall.{completions}
+use Rattle.wg_typing.specs.Sites.{at_if}
+use Rattle.wg_typing.specs.Site.{Site, AtExpr, AtFlag, AtWanted, AtConst, AtStep, AtHandle, AtReturn, AtJump, AtType, AtName, AtSize, AtLocal, AtLimit, AtObject, AtFunction, Event, declares, requests, completes, collective, returns, calls}
+use Rattle.wg_typing.specs.RulesBadOutputCall.{completions}
 
 -- the handles among the first events that are not completed once in all
 abbrev pub uncompleted : List Event → List Event → List Place

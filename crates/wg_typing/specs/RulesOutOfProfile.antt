@@ -3,14 +3,14 @@
 use Rattle.std.specs.Prelude.{Bool, false, not, ◌||◌, is_none, List, [], ◌∷◌, Option, Some, None}
 use Rattle.wg_words.specs.declared.place.Place.{Place}
 use Rattle.wg_typing.specs.Scope.{Around, in_entry, in_plain, in_const}
-use Rattle.wg_typing.specs.TypingCallee.{Callee, plain, entry, itself, builtin, broken, unknown, callee}
+use Rattle.wg_typing.specs.TypingCallee.{CalledName, plain, entry, itself, builtin, broken, unknown, callee}
 use Rattle.wg_typing.specs.TypingHandle.{struct_number}
-use Rattle.wg_typing.specs.SiteTree.{at_if}
+use Rattle.wg_typing.specs.Sites.{at_if}
 use Rattle.wg_typing.specs.RulesShared.{of_call}
-use Rattle.wg_typing.specs.Sites.{Site, AtExpr, AtFlag, AtWanted, AtConst, AtStep, AtHandle, AtReturn, AtJump, AtType, AtName, AtSize, AtLocal, AtLimit, AtObject, AtFunction}
+use Rattle.wg_typing.specs.Site.{Site, AtExpr, AtFlag, AtWanted, AtConst, AtStep, AtHandle, AtReturn, AtJump, AtType, AtName, AtSize, AtLocal, AtLimit, AtObject, AtFunction}
 use Rattle.wg_typed.specs.declared.types.TypeTree.{TypeTree}
 
-abbrev pub entry_called : Place → Callee → List Place
+abbrev pub entry_called : Place → CalledName → List Place
 entry_called name (plain number result parameters chain) = []
 entry_called name entry = name ∷ []
 entry_called name itself = []

@@ -1,11 +1,11 @@
 -- Recursion: a function that calls itself; the called name. Own number.
 use Rattle.std.specs.Prelude.{List, [], ◌∷◌}
 use Rattle.wg_words.specs.declared.place.Place.{Place}
-use Rattle.wg_typing.specs.TypingCallee.{Callee, plain, entry, itself, builtin, broken, unknown, callee}
+use Rattle.wg_typing.specs.TypingCallee.{CalledName, plain, entry, itself, builtin, broken, unknown, callee}
 use Rattle.wg_typing.specs.RulesShared.{of_call}
-use Rattle.wg_typing.specs.Sites.{Site, AtExpr, AtFlag, AtWanted, AtConst, AtStep, AtHandle, AtReturn, AtJump, AtType, AtName, AtSize, AtLocal, AtLimit, AtObject, AtFunction}
+use Rattle.wg_typing.specs.Site.{Site, AtExpr, AtFlag, AtWanted, AtConst, AtStep, AtHandle, AtReturn, AtJump, AtType, AtName, AtSize, AtLocal, AtLimit, AtObject, AtFunction}
 
-abbrev pub itself_called : Place → Callee → List Place
+abbrev pub itself_called : Place → CalledName → List Place
 itself_called name (plain number result parameters chain) = []
 itself_called name entry = []
 itself_called name itself = name ∷ []

@@ -1,10 +1,10 @@
 -- What the rules of types have in common: places, parts that stand as values, and parts that have a type.
 use Rattle.std.specs.Prelude.{◌==◌, Bool, true, false, not, ◌&&◌, if◌then◌else◌, is_some, List, [], ◌∷◌, ◌++◌, length, Option, Some, None}
 use Rattle.wg_words.specs.declared.place.Place.{Place}
-use Rattle.wg_typing.specs.SiteTree.{at_if}
+use Rattle.wg_typing.specs.Sites.{at_if}
 use Rattle.wg_typing.specs.Scope.{Context}
 use Rattle.wg_typing.specs.Layers.{Layer, FormLayer, member, method, index, LinkLayer, Part, typed_part, TypedPart}
-use Rattle.wg_typing.specs.TypingCallee.{Callee, plain, entry, itself, builtin, broken, unknown, on_numbers, interlocked, levels, barrier, barrier_of, callee}
+use Rattle.wg_typing.specs.TypingCallee.{CalledName, plain, entry, itself, builtin, broken, unknown, on_numbers, interlocked, levels, barrier, barrier_of, callee}
 use Rattle.wg_typing.specs.TypingActs.{is_output_act, is_syncing, is_plain_act}
 use Rattle.wg_typing.specs.TypingBarrier.{any_broken, unknown_words, is_alone}
 use Rattle.wg_typing.specs.TypingForms.{Along, at_typed, at_other}
@@ -59,7 +59,7 @@ links_parts [] = []
 links_parts (l ∷ rest) = l.operand ∷ links_parts rest
 
 -- the arguments of `Barrier` are no values
-abbrev pub argument_parts : Callee → List Part → List Part
+abbrev pub argument_parts : CalledName → List Part → List Part
 argument_parts (plain number result parameters chain) parts = parts
 argument_parts entry parts = parts
 argument_parts itself parts = parts

@@ -5,11 +5,11 @@ use Rattle.wg_typing.specs.Named.{is_among}
 use Rattle.wg_typing.specs.Scope.{Context, Around, in_entry, in_plain, in_const, look}
 use Rattle.wg_typing.specs.Layers.{Layer, FormLayer, member, method, index, Part}
 use Rattle.wg_typing.specs.TypingObjects.{method_of}
-use Rattle.wg_typing.specs.TypingCallee.{Callee, plain, entry, itself, builtin, broken, unknown, Builtin, on_numbers, interlocked, levels, barrier, barrier_of, callee}
+use Rattle.wg_typing.specs.TypingCallee.{CalledName, plain, entry, itself, builtin, broken, unknown, Builtin, on_numbers, interlocked, levels, barrier, barrier_of, callee}
 use Rattle.wg_typing.specs.TypingForms.{Along, at_typed, at_other, Reached, member_of, begun, over_forms}
-use Rattle.wg_typing.specs.SiteTree.{at_if}
+use Rattle.wg_typing.specs.Sites.{at_if}
 use Rattle.wg_typing.specs.RulesShared.{unknown_flags}
-use Rattle.wg_typing.specs.Sites.{Site, AtExpr, AtFlag, AtWanted, AtConst, AtStep, AtHandle, AtReturn, AtJump, AtType, AtName, AtSize, AtLocal, AtLimit, AtObject, AtFunction}
+use Rattle.wg_typing.specs.Site.{Site, AtExpr, AtFlag, AtWanted, AtConst, AtStep, AtHandle, AtReturn, AtJump, AtType, AtName, AtSize, AtLocal, AtLimit, AtObject, AtFunction}
 use Rattle.wg_tree.specs.declared.expr.Named.{Named}
 use Rattle.wg_tree.specs.declared.expr.TypeName.{TypeName}
 use Rattle.wg_tree.specs.declared.expr.TypeName.TheVariants as type_name
@@ -73,7 +73,7 @@ unknown_in_builtin c levels parts = []
 unknown_in_builtin c (barrier syncs) parts = []
 unknown_in_builtin c barrier_of parts = places_of (unknown_flags c parts)
 
-abbrev pub unknown_call : Context → Place → Callee → List Part → List Place
+abbrev pub unknown_call : Context → Place → CalledName → List Part → List Place
 unknown_call c name (plain number result parameters chain) parts = []
 unknown_call c name entry parts = []
 unknown_call c name itself parts = []

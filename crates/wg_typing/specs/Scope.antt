@@ -68,10 +68,10 @@ pub data Around : Type 0 where
   in_const : List (List ℕ) → Around
 
 -- what a function gives back: nothing, a value of a type, or one of a type that is broken
-pub data Gives : Type 0 where
-  nothing : Gives
-  a_value : TypeTree → Gives
-  unsure : Gives
+pub data GivesBack : Type 0 where
+  nothing : GivesBack
+  a_value : TypeTree → GivesBack
+  unsure : GivesBack
 
 -- Where a statement stands: the names in scope, of which the first so many belong to the scopes around; the structs by number;
 -- the function around, the names of its parameters, and what it gives back; whether it is a direct statement of the function's body, and whether it is in the
@@ -83,7 +83,7 @@ pub record Context : Type 0 where
   pub structs : List TypedStruct
   pub around : Around
   pub parameters : List (List ℕ)
-  pub returns : Gives
+  pub returns : GivesBack
   pub direct : Bool
   pub looped : Bool
   pub locals : List TypeTree

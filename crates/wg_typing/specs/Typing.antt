@@ -1,8 +1,8 @@
 -- When a text is well typed, and its typed form. The rules are those of this project's profile of HLSL, with its own numbers.
 use Rattle.std.specs.Prelude.{ℕ, List, Option}
 use Rattle.wg_words.specs.declared.place.Place.{Place}
-use Rattle.wg_typing.specs.SiteTree.{Sites, Among, In}
-use Rattle.wg_typing.specs.Sites.{Site}
+use Rattle.wg_typing.specs.Sites.{Sites, Among, In}
+use Rattle.wg_typing.specs.Site.{Site}
 use Rattle.wg_typing.specs.TypingText.{no_text, items_sites, items_after, text_tree}
 use Rattle.wg_typing.specs.RulesUnknownName.{unknown_name}
 use Rattle.wg_typing.specs.RulesRepeated.{repeated}
@@ -10,42 +10,42 @@ use Rattle.wg_typing.specs.RulesRecursion.{recursion}
 use Rattle.wg_typing.specs.RulesOutOfProfile.{out_of_profile}
 use Rattle.wg_typing.specs.RulesMismatch.{mismatch}
 use Rattle.wg_typing.specs.RulesNotAssignable.{not_assignable}
-use Rattle.wg_typing.specs.RulesArity.{wrong_arity}
-use Rattle.wg_typing.specs.RulesLimit.{limit_passed}
-use Rattle.wg_typing.specs.RulesBarrier.{bad_barrier}
-use Rattle.wg_typing.specs.RulesOutputCall.{bad_output_call}
+use Rattle.wg_typing.specs.RulesWrongArity.{wrong_arity}
+use Rattle.wg_typing.specs.RulesLimitPassed.{limit_passed}
+use Rattle.wg_typing.specs.RulesBadBarrier.{bad_barrier}
+use Rattle.wg_typing.specs.RulesBadOutputCall.{bad_output_call}
 use Rattle.wg_typing.specs.RulesNotCompleted.{not_completed}
 use Rattle.wg_tree.specs.declared.item.Source.{Source}
 use Rattle.wg_typed.specs.declared.typed.Typed.{Typed}
 
-pub data Rule : Type 0 where
-  UnknownName : Rule
-  Repeated : Rule
-  Mismatch : Rule
-  NotAssignable : Rule
-  Recursion : Rule
-  LimitPassed : Rule
-  BadBarrier : Rule
-  BadOutputCall : Rule
-  NotCompleted : Rule
-  WrongArity : Rule
-  OutOfProfile : Rule
+pub data TypingRule : Type 0 where
+  UnknownName : TypingRule
+  Repeated : TypingRule
+  Mismatch : TypingRule
+  NotAssignable : TypingRule
+  Recursion : TypingRule
+  LimitPassed : TypingRule
+  BadBarrier : TypingRule
+  BadOutputCall : TypingRule
+  NotCompleted : TypingRule
+  WrongArity : TypingRule
+  OutOfProfile : TypingRule
 
-abbrev pub number : Rule → ℕ
-number UnknownName = 301
-number Repeated = 302
-number Mismatch = 303
-number NotAssignable = 304
-number Recursion = 305
-number LimitPassed = 306
-number BadBarrier = 307
-number BadOutputCall = 308
-number NotCompleted = 309
-number WrongArity = 310
-number OutOfProfile = 311
+abbrev pub typing_number : TypingRule → ℕ
+typing_number UnknownName = 301
+typing_number Repeated = 302
+typing_number Mismatch = 303
+typing_number NotAssignable = 304
+typing_number Recursion = 305
+typing_number LimitPassed = 306
+typing_number BadBarrier = 307
+typing_number BadOutputCall = 308
+typing_number NotCompleted = 309
+typing_number WrongArity = 310
+typing_number OutOfProfile = 311
 
 -- the places at which a site breaks a rule
-abbrev pub places : Rule → Site → List Place
+abbrev pub places : TypingRule → Site → List Place
 places UnknownName = unknown_name
 places Repeated = repeated
 places Mismatch = mismatch
@@ -63,18 +63,18 @@ abbrev pub sites : Source → Sites Site
 sites tree = items_sites no_text tree.items
 
 -- the rule is broken at the place, at one of these sites
-pub record BrokenAt (rule : Rule) (p : Place) (all : Sites Site) : Type 0 where
+pub record BrokenAt (rule : TypingRule) (p : Place) (all : Sites Site) : Type 0 where
   pub site : Site
   pub stands : Among all site
   pub breaks : In (places rule site) p
 
 -- The tree breaks the rule at the place.
-abbrev pub Breaks : Rule → Place → Source → Type 0
+abbrev pub Breaks : TypingRule → Place → Source → Type 0
 Breaks rule p tree = BrokenAt rule p (sites tree)
 
 -- no rule is broken anywhere
 pub record IsWellTyped (tree : Source) : Type 0 where
-  pub unbroken : (rule : Rule) (p : Place) → Breaks rule p tree → ⊥
+  pub unbroken : (rule : TypingRule) (p : Place) → Breaks rule p tree → ⊥
 
 -- the tree with names resolved and conversions written
 abbrev pub typed : Source → Option Typed

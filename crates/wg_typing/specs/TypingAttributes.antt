@@ -4,9 +4,9 @@ use Rattle.std.specs.Str.{bytes_eq}
 use Rattle.wg_typing.specs.Named.{is_called}
 use Rattle.wg_typed.specs.Constants.{const_value}
 use Rattle.wg_typing.specs.Scope.{Context, as_const, known_names}
-use Rattle.wg_typing.specs.SiteTree.{Sites, nowhere, ◌&◌}
-use Rattle.wg_typing.specs.Sites.{Site}
-use Rattle.wg_typing.specs.TypingExpr.{Alone, a_text, a_name, neither, seen, part, sites_of}
+use Rattle.wg_typing.specs.Sites.{Sites, nowhere, ◌&◌}
+use Rattle.wg_typing.specs.Site.{Site}
+use Rattle.wg_typing.specs.TypingExpr.{Alone, a_text, a_name, neither, expr_form, part, sites_of}
 use Rattle.wg_tree.specs.declared.expr.Expr.{Expr}
 use Rattle.wg_tree.specs.declared.stmt.Attribute.{Attribute}
 use Rattle.wg_typed.specs.declared.types.ConstValue.{ConstValue}
@@ -43,7 +43,7 @@ alone_value allowed neither v = number_if v
 abbrev pub argument_of : Context → List (List ℕ) → Expr → TypedArgument
 argument_of c allowed e = record {
   place = (part (as_const allowed c) e).place;
-  value = alone_value allowed (seen (as_const allowed c) e).alone (const_value (known_names c.names) e);
+  value = alone_value allowed (expr_form (as_const allowed c) e).alone (const_value (known_names c.names) e);
 }
 
 -- an attribute with its evaluated arguments

@@ -2,8 +2,8 @@
 use Rattle.std.specs.Prelude.{ℕ, Option, Some, None}
 use Rattle.wg_typing.specs.Maybe.{◌>>=◌}
 use Rattle.wg_typing.specs.Scope.{Context, named_type}
-use Rattle.wg_typing.specs.SiteTree.{Sites, nowhere, only}
-use Rattle.wg_typing.specs.Sites.{Site, AtType}
+use Rattle.wg_typing.specs.Sites.{Sites, nowhere, only}
+use Rattle.wg_typing.specs.Site.{Site, AtType}
 use Rattle.wg_tree.specs.declared.expr.Named.{Named}
 use Rattle.wg_tree.specs.declared.expr.TypeName.{TypeName}
 use Rattle.wg_tree.specs.declared.item.BufferType.{BufferType}
@@ -18,9 +18,9 @@ use Rattle.wg_typing.specs.declared.scope.Object.TheVariants as object
 abbrev pub buffer_limit : ℕ
 buffer_limit = 64
 
-abbrev pub buffer_element : BufferType → Option TypeName
-buffer_element (buffer_type.Raw place writable) = None
-buffer_element (buffer_type.Structured place writable of) = Some of
+abbrev pub element_type_name : BufferType → Option TypeName
+element_type_name (buffer_type.Raw place writable) = None
+element_type_name (buffer_type.Structured place writable of) = Some of
 
 abbrev pub buffer_of : Context → BufferType → Option TypedBufferType
 buffer_of c (buffer_type.Raw place writable) = Some (typed_buffer.Raw writable)

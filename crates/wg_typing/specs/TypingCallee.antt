@@ -47,23 +47,23 @@ builtins in_plain = everywhere
 builtins (in_const allowed) = everywhere
 
 -- What a called name is. A declared name hides a call of the language.
-pub data Callee : Type 0 where
-  plain : ℕ → Option TypeTree → List FormalParameter → ℕ → Callee
-  entry : Callee
-  itself : Callee
-  builtin : Builtin → Callee
-  broken : Callee
-  unknown : Callee
+pub data CalledName : Type 0 where
+  plain : ℕ → Option TypeTree → List FormalParameter → ℕ → CalledName
+  entry : CalledName
+  itself : CalledName
+  builtin : Builtin → CalledName
+  broken : CalledName
+  unknown : CalledName
 
-abbrev pub builtin_if : Option Builtin → Callee
+abbrev pub builtin_if : Option Builtin → CalledName
 builtin_if (Some b) = builtin b
 builtin_if None = unknown
 
-abbrev pub function_if : ℕ → Bool → Option TypeTree → List FormalParameter → ℕ → Callee
+abbrev pub function_if : ℕ → Bool → Option TypeTree → List FormalParameter → ℕ → CalledName
 function_if number true result parameters chain = entry
 function_if number false result parameters chain = plain number result parameters chain
 
-abbrev pub callee_of : Option Meant → Option Builtin → Callee
+abbrev pub callee_of : Option Meant → Option Builtin → CalledName
 callee_of (Some (meant.Function number is_entry result parameters chain)) b = function_if number is_entry result parameters chain
 callee_of (Some meant.Itself) b = itself
 callee_of (Some meant.Broken) b = broken
@@ -75,5 +75,5 @@ callee_of (Some (meant.Parameter parameter of)) b = unknown
 callee_of (Some (meant.Object object)) b = unknown
 callee_of None b = builtin_if b
 
-abbrev pub callee : Context → Named → Callee
+abbrev pub callee : Context → Named → CalledName
 callee c name = callee_of (look name.name c.names) (at_name (builtins c.around) name.name)

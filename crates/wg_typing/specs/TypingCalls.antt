@@ -4,7 +4,7 @@ use Rattle.wg_words.specs.declared.place.Place.{Place}
 use Rattle.wg_typing.specs.Scope.{Context}
 use Rattle.wg_typing.specs.Layers.{Part}
 use Rattle.wg_typing.specs.TypingInterlocked.{interlocked_at}
-use Rattle.wg_typing.specs.TypingCallee.{Builtin, on_numbers, interlocked, levels, barrier, barrier_of, Callee, plain, entry, itself, builtin, broken, unknown}
+use Rattle.wg_typing.specs.TypingCallee.{Builtin, on_numbers, interlocked, levels, barrier, barrier_of, CalledName, plain, entry, itself, builtin, broken, unknown}
 use Rattle.wg_typing.specs.TypingFunctionCall.{plain_value}
 use Rattle.wg_typing.specs.TypingIntrinsic.{intrinsic_value}
 use Rattle.wg_typing.specs.TypingBarrier.{barrier_value, outside_plain, plain_barrier, levels_value}
@@ -17,7 +17,7 @@ builtin_value c name levels parts = levels_value name parts
 builtin_value c name (barrier syncs) parts = outside_plain c.around (plain_barrier name syncs parts)
 builtin_value c name barrier_of parts = outside_plain c.around (barrier_value c name parts)
 
-abbrev pub call_value : Context → Place → Callee → List Part → Option Value
+abbrev pub call_value : Context → Place → CalledName → List Part → Option Value
 call_value c name (plain number result parameters chain) parts = plain_value name number result parameters chain parts
 call_value c name entry parts = None
 call_value c name itself parts = None

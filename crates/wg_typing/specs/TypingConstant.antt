@@ -7,8 +7,8 @@ use Rattle.wg_typing.specs.Scope.{Context, as_const, known_names, named_type}
 use Rattle.wg_typing.specs.Layers.{fit}
 use Rattle.wg_typing.specs.TypingExpr.{part}
 use Rattle.wg_typing.specs.TypingDeclared.{const_sites}
-use Rattle.wg_typing.specs.SiteTree.{Sites, only, ◌&◌}
-use Rattle.wg_typing.specs.Sites.{Site, AtType}
+use Rattle.wg_typing.specs.Sites.{Sites, only, ◌&◌}
+use Rattle.wg_typing.specs.Site.{Site, AtType}
 use Rattle.wg_tree.specs.declared.expr.Scalar.{Scalar}
 use Rattle.wg_tree.specs.declared.expr.Scalar.TheVariants as scalar
 use Rattle.wg_tree.specs.declared.expr.Expr.{Expr}

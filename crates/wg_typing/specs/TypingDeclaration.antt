@@ -3,8 +3,8 @@ use Rattle.std.specs.Prelude.{Bool, List, [], ◌∷◌, ◌++◌, length, is_so
 use Rattle.wg_typing.specs.Maybe.{◌>>=◌, if_there}
 use Rattle.wg_typed.specs.Layout.{words_of}
 use Rattle.wg_typing.specs.Scope.{Context, own_names, declare, named_type}
-use Rattle.wg_typing.specs.SiteTree.{Sites, nowhere, only, ◌&◌}
-use Rattle.wg_typing.specs.Sites.{Site, AtType, AtLocal}
+use Rattle.wg_typing.specs.Sites.{Sites, nowhere, only, ◌&◌}
+use Rattle.wg_typing.specs.Site.{Site, AtType, AtLocal}
 use Rattle.wg_typing.specs.TypingDeclared.{declared_type, wanted_there, fit_in, declared_sites}
 use Rattle.wg_tree.specs.declared.expr.Named.{Named}
 use Rattle.wg_tree.specs.declared.stmt.Declaration.{Declaration}

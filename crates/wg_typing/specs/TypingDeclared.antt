@@ -8,8 +8,8 @@ use Rattle.wg_typing.specs.Scope.{Context, as_const, known_names}
 use Rattle.wg_typing.specs.Layers.{typed_part, fit}
 use Rattle.wg_typing.specs.TypingExpr.{part, sites_of}
 use Rattle.wg_typing.specs.AttributeArguments.{is_positive}
-use Rattle.wg_typing.specs.SiteTree.{Sites, nowhere, only, ◌&◌}
-use Rattle.wg_typing.specs.Sites.{Site, AtWanted, AtConst, AtName, AtSize, AtLimit}
+use Rattle.wg_typing.specs.Sites.{Sites, nowhere, only, ◌&◌}
+use Rattle.wg_typing.specs.Site.{Site, AtWanted, AtConst, AtName, AtSize, AtLimit}
 use Rattle.wg_tree.specs.declared.expr.Named.{Named}
 use Rattle.wg_tree.specs.declared.expr.Expr.{Expr}
 use Rattle.wg_typed.specs.declared.types.ConstValue.{ConstValue}

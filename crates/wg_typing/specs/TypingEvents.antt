@@ -3,18 +3,18 @@ use Rattle.std.specs.Prelude.{ℕ, suc, max, Bool, true, false, if◌then◌else
 use Rattle.wg_words.specs.declared.place.Place.{Place}
 use Rattle.wg_typing.specs.Scope.{Context}
 use Rattle.wg_typing.specs.Layers.{Part, Layer}
-use Rattle.wg_typing.specs.TypingCallee.{Callee, plain, entry, itself, builtin, broken, unknown, callee}
+use Rattle.wg_typing.specs.TypingCallee.{CalledName, plain, entry, itself, builtin, broken, unknown, callee}
 use Rattle.wg_typing.specs.TypingForms.{Along, at_typed, at_other, begun, form_on, over_forms}
 use Rattle.wg_typing.specs.TypingStep.{Did, a_step, an_act, step_did}
-use Rattle.wg_typing.specs.SiteTree.{Sites, nowhere, only, ◌&◌}
-use Rattle.wg_typing.specs.Sites.{Site, AtExpr, AtFlag, AtWanted, AtConst, AtStep, AtHandle, AtReturn, AtJump, AtType, AtName, AtSize, AtLocal, AtLimit, AtObject, AtFunction, Event, declares, requests, completes, collective, returns, calls}
+use Rattle.wg_typing.specs.Sites.{Sites, nowhere, only, ◌&◌}
+use Rattle.wg_typing.specs.Site.{Site, AtExpr, AtFlag, AtWanted, AtConst, AtStep, AtHandle, AtReturn, AtJump, AtType, AtName, AtSize, AtLocal, AtLimit, AtObject, AtFunction, Event, declares, requests, completes, collective, returns, calls}
 use Rattle.wg_tree.specs.declared.expr.Named.{Named}
 use Rattle.wg_tree.specs.declared.expr.Expr.TheOpen.{Expr-F}
 use Rattle.wg_typing.specs.declared.scope.Act.{Act}
 use Rattle.wg_typing.specs.declared.scope.Act.TheVariants as act
 use Rattle.wg_typing.specs.declared.scope.Value.TheVariants as value
 
-abbrev pub calls_of : Callee → List Event
+abbrev pub calls_of : CalledName → List Event
 calls_of (plain number result parameters chain) = calls chain ∷ []
 calls_of entry = []
 calls_of itself = []

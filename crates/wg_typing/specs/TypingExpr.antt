@@ -5,11 +5,11 @@ use Rattle.wg_typing.specs.Maybe.{◌>>=◌}
 use Rattle.wg_typing.specs.Conversions.{numbers, of_value_type}
 use Rattle.wg_typing.specs.Scope.{Context, look}
 use Rattle.wg_typing.specs.Layers.{Layer, FormLayer, member, method, index, LinkLayer, map_layer, Part}
-use Rattle.wg_typing.specs.TypingCallee.{Callee, plain, entry, itself, builtin, broken, unknown, on_numbers, interlocked, levels, barrier, barrier_of, callee}
+use Rattle.wg_typing.specs.TypingCallee.{CalledName, plain, entry, itself, builtin, broken, unknown, on_numbers, interlocked, levels, barrier, barrier_of, callee}
 use Rattle.wg_typing.specs.TypingCalls.{call_value}
 use Rattle.wg_typing.specs.TypingConstructor.{constructed}
-use Rattle.wg_typing.specs.SiteTree.{Sites, nowhere, only, ◌&◌, all_sites}
-use Rattle.wg_typing.specs.Sites.{Site, AtExpr, AtFlag}
+use Rattle.wg_typing.specs.Sites.{Sites, nowhere, only, ◌&◌, all_sites}
+use Rattle.wg_typing.specs.Site.{Site, AtExpr, AtFlag}
 use Rattle.wg_typing.specs.TypingName.{number_value, truth_value, named_value}
 use Rattle.wg_typing.specs.TypingOperators.{prefix_value, cast_value, zeros_value, choice_value, chain_value}
 use Rattle.wg_typing.specs.TypingForms.{postfix_value}
@@ -43,7 +43,7 @@ pub data Alone : Type 0 where
   neither : Alone
 
 -- an expression as a part, its sites, its sites as an argument of a barrier, and what it is alone
-pub record Seen : Type 0 where
+pub record ExprForm : Type 0 where
   pub part : Part
   pub sites : Sites Site
   pub flag_sites : Sites Site
@@ -64,22 +64,22 @@ first_token (Expr-F.Postfix first forms) = first.place
 first_token (Expr-F.Chain first rest) = first.place
 first_token (Expr-F.Choice test a b) = test.place
 
-abbrev pub sites_of_all : List Seen → Sites Site
-sites_of_all seen = all_sites (map (λ (s : Seen). s.sites) seen)
+abbrev pub sites_of_all : List ExprForm → Sites Site
+sites_of_all expr_form = all_sites (map (λ (s : ExprForm). s.sites) expr_form)
 
-abbrev pub flag_sites_of_all : List Seen → Sites Site
-flag_sites_of_all seen = all_sites (map (λ (s : Seen). s.flag_sites) seen)
+abbrev pub flag_sites_of_all : List ExprForm → Sites Site
+flag_sites_of_all expr_form = all_sites (map (λ (s : ExprForm). s.flag_sites) expr_form)
 
-abbrev pub form_sites : FormLayer Seen → Sites Site
+abbrev pub form_sites : FormLayer ExprForm → Sites Site
 form_sites (member name) = nowhere
 form_sites (method name arguments) = sites_of_all arguments
 form_sites (index at) = at.sites
 
-abbrev pub link_sites : LinkLayer Seen → Sites Site
+abbrev pub link_sites : LinkLayer ExprForm → Sites Site
 link_sites l = l.operand.sites
 
 -- the arguments of `Barrier` are read as flags
-abbrev pub argument_sites : Callee → List Seen → Sites Site
+abbrev pub argument_sites : CalledName → List ExprForm → Sites Site
 argument_sites (plain number result parameters chain) arguments = sites_of_all arguments
 argument_sites entry arguments = sites_of_all arguments
 argument_sites itself arguments = sites_of_all arguments
@@ -92,7 +92,7 @@ argument_sites broken arguments = sites_of_all arguments
 argument_sites unknown arguments = sites_of_all arguments
 
 -- the sites of the parts
-abbrev pub inner_sites : Context → Layer Seen → Sites Site
+abbrev pub inner_sites : Context → Layer ExprForm → Sites Site
 inner_sites c (Expr-F.Number at n unsigned) = nowhere
 inner_sites c (Expr-F.Text at bytes) = nowhere
 inner_sites c (Expr-F.Truth at b) = nowhere
@@ -107,11 +107,11 @@ inner_sites c (Expr-F.Postfix first forms) = first.sites & all_sites (map form_s
 inner_sites c (Expr-F.Chain first rest) = first.sites & all_sites (map link_sites rest)
 inner_sites c (Expr-F.Choice test a b) = test.sites & a.sites & b.sites
 
-abbrev pub link_flag_sites : LinkLayer Seen → Sites Site
+abbrev pub link_flag_sites : LinkLayer ExprForm → Sites Site
 link_flag_sites l = l.operand.flag_sites
 
 -- the sites of an argument of a barrier: a flag and the number 0 have none, an expression that is no flag has its own
-abbrev pub flags_at : Sites Site → Layer Seen → Sites Site
+abbrev pub flags_at : Sites Site → Layer ExprForm → Sites Site
 flags_at own (Expr-F.Number at n unsigned) = nowhere
 flags_at own (Expr-F.Text at bytes) = own
 flags_at own (Expr-F.Truth at b) = own
@@ -141,7 +141,7 @@ alone_of (Expr-F.Postfix first forms) = neither
 alone_of (Expr-F.Chain first rest) = neither
 alone_of (Expr-F.Choice test a b) = neither
 
-abbrev pub part_of : Seen → Part
+abbrev pub part_of : ExprForm → Part
 part_of s = s.part
 
 -- the part that a layer makes, at its first token
@@ -152,14 +152,14 @@ layer_part c layer = record {
   pieces = layer_pieces (layer_value c (first_token layer) layer) layer;
 }
 
-abbrev pub layer_sites : Context → Layer Seen → Sites Site
+abbrev pub layer_sites : Context → Layer ExprForm → Sites Site
 layer_sites c layer = inner_sites c layer & only (AtExpr c (first_token (map_layer part_of layer)) (map_layer part_of layer))
 
 -- The arguments of a barrier are no values, so what one is that is no flag is looked at here: it may be an output call, or a barrier.
-abbrev pub no_flag_sites : Context → Layer Seen → Sites Site
+abbrev pub no_flag_sites : Context → Layer ExprForm → Sites Site
 no_flag_sites c layer = layer_sites c layer & only (AtFlag (layer_part c (map_layer part_of layer)).value)
 
-abbrev pub expr_seen : Context → Layer Seen → Seen
+abbrev pub expr_seen : Context → Layer ExprForm → ExprForm
 expr_seen c layer = record {
   part = layer_part c (map_layer part_of layer);
   sites = layer_sites c layer;
@@ -167,20 +167,20 @@ expr_seen c layer = record {
   alone = alone_of layer;
 }
 
-abbrev pub form_seen : Form-F Seen (FormLayer Seen) (LinkLayer Seen) → FormLayer Seen
+abbrev pub form_seen : Form-F ExprForm (FormLayer ExprForm) (LinkLayer ExprForm) → FormLayer ExprForm
 form_seen (Form-F.Member name) = member name
 form_seen (Form-F.Method name arguments) = method name arguments
 form_seen (Form-F.Index place at) = index at
 
-abbrev pub link_seen : Link-F Seen (FormLayer Seen) (LinkLayer Seen) → LinkLayer Seen
+abbrev pub link_seen : Link-F ExprForm (FormLayer ExprForm) (LinkLayer ExprForm) → LinkLayer ExprForm
 link_seen l = record { operator = l.operator; operand = l.operand }
 
 -- an expression in its context
-abbrev pub seen : Context → Expr → Seen
-seen c = fold-Expr Seen (FormLayer Seen) (LinkLayer Seen) (expr_seen c) form_seen link_seen
+abbrev pub expr_form : Context → Expr → ExprForm
+expr_form c = fold-Expr ExprForm (FormLayer ExprForm) (LinkLayer ExprForm) (expr_seen c) form_seen link_seen
 
 abbrev pub part : Context → Expr → Part
-part c e = (seen c e).part
+part c e = (expr_form c e).part
 
 abbrev pub sites_of : Context → Expr → Sites Site
-sites_of c e = (seen c e).sites
+sites_of c e = (expr_form c e).sites

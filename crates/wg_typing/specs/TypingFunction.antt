@@ -1,12 +1,12 @@
 -- The typed form of a function: its parameters, and its body in a scope of its own (HLSL Shader Model 6.8, functions).
 use Rattle.std.specs.Prelude.{ℕ, suc, Bool, true, false, if◌then◌else◌, List, [], length, map, Option, Some, None, unwrap_or}
 use Rattle.wg_typing.specs.Maybe.{◌>>=◌, all_of}
-use Rattle.wg_typing.specs.Scope.{Context, Around, in_entry, in_plain, in_const, Gives, nothing, a_value, unsure, declare, named_type}
+use Rattle.wg_typing.specs.Scope.{Context, Around, in_entry, in_plain, in_const, GivesBack, nothing, a_value, unsure, declare, named_type}
 use Rattle.wg_typing.specs.AttributeArguments.{is_entry, lanes_of}
 use Rattle.wg_typing.specs.TypingAttributes.{attributes_of, attribute_sites}
 use Rattle.wg_typing.specs.TypingStmt.{block_after, block_sites, block_trees, walked}
-use Rattle.wg_typing.specs.SiteTree.{Sites, nowhere, only, ◌&◌}
-use Rattle.wg_typing.specs.Sites.{Site, AtType, AtName, AtFunction}
+use Rattle.wg_typing.specs.Sites.{Sites, nowhere, only, ◌&◌}
+use Rattle.wg_typing.specs.Site.{Site, AtType, AtName, AtFunction}
 use Rattle.wg_typing.specs.TypingEvents.{events, chain_of}
 use Rattle.wg_typing.specs.TypingSoFar.{Text, outside, text_names}
 use Rattle.wg_typing.specs.TypingParameter.{Before, parameters_after, parameters_sites, parameters_trees}
@@ -34,11 +34,11 @@ parameter_names parameters = map (λ (p : Parameter). p.name.name) parameters
 abbrev pub around_of : Context → List Attribute → Around
 around_of c attributes = if is_entry (attributes_of c attributes) then in_entry (lanes_of (attributes_of c attributes)) else in_plain
 
-abbrev pub gives_if : Option TypeTree → Gives
+abbrev pub gives_if : Option TypeTree → GivesBack
 gives_if (Some of) = a_value of
 gives_if None = unsure
 
-abbrev pub gives : Context → ResultType → Gives
+abbrev pub gives : Context → ResultType → GivesBack
 gives c (result_type.Void place) = nothing
 gives c (result_type.Value of) = gives_if (named_type c.names of)
 
@@ -83,7 +83,7 @@ function_sites x attributes result name parameters body =
     attribute_sites (head_context x parameters) attributes & result_sites (outside x) result & only (AtName (text_names x) name)
     & parameters_sites first_before parameters c & inner & only (AtFunction name c.around (has_result result) (events inner))
 
-abbrev pub result_if : Gives → Option (Option TypeTree)
+abbrev pub result_if : GivesBack → Option (Option TypeTree)
 result_if nothing = Some None
 result_if (a_value of) = Some (Some of)
 result_if unsure = None

@@ -4,8 +4,8 @@ use Rattle.wg_typing.specs.Maybe.{◌>>=◌, where_true}
 use Rattle.wg_typed.specs.Layout.{words_of}
 use Rattle.wg_typing.specs.Scope.{Context, own_names, declare, named_type, collective_here}
 use Rattle.wg_typing.specs.TypingExpr.{part, sites_of}
-use Rattle.wg_typing.specs.SiteTree.{Sites, nowhere, only, ◌&◌}
-use Rattle.wg_typing.specs.Sites.{Site, AtHandle, AtType, AtName, AtLimit, AtObject}
+use Rattle.wg_typing.specs.Sites.{Sites, nowhere, only, ◌&◌}
+use Rattle.wg_typing.specs.Site.{Site, AtHandle, AtType, AtName, AtLimit, AtObject}
 use Rattle.wg_typing.specs.TypingDeclared.{record_limit}
 use Rattle.wg_tree.specs.declared.expr.Named.{Named}
 use Rattle.wg_tree.specs.declared.expr.Expr.{Expr}
@@ -72,7 +72,7 @@ object_sites c allowed of name =
     type_there c of.record_type & only (AtObject allowed of (record_named c of)) & record_limit_site c name (record_number c of)
 
 -- a request of the group's or of each lane's records of a type, at an output
-pub record Request : Type 0 where
+pub record RequestForm : Type 0 where
   pub group : Bool
   pub output : ℕ
   pub element : Option TypedExpr
@@ -82,15 +82,15 @@ abbrev pub same_truth : Bool → Bool → Bool
 same_truth a b = if a then b else not b
 
 -- the request that fits a handle's object and record type
-abbrev pub request_in : Option Bool → Option ℕ → Option Value → Option Request
+abbrev pub request_in : Option Bool → Option ℕ → Option Value → Option RequestForm
 request_in (Some group) (Some number) (Some (value.Act name (act.Request of_group output record_type element amount))) =
     where_true (same_truth of_group group && record_type == number) (record { group = group; output = output; element = element; amount = amount })
 request_in group number v = None
 
-abbrev pub handle_request : Context → ObjectType → Expr → Option Request
+abbrev pub handle_request : Context → ObjectType → Expr → Option RequestForm
 handle_request c of e = request_in (handle_word of.word) (handle_record c of) (part c e).value
 
-abbrev pub handle_tree : Named → Option Request → Option TypedHandle
+abbrev pub handle_tree : Named → Option RequestForm → Option TypedHandle
 handle_tree name r = r >>= (λ r. Some (record { name = name; group = r.group; output = r.output }))
 
 -- a handle of a record type takes the next number
@@ -104,5 +104,5 @@ handle_sites of name e c =
     sites_of c e & object_sites c (is_some (handle_word of.word) && is_some of.record_type) of name & only (AtName (own_names c) name)
     & only (AtHandle c of name (handle_record c of) e)
 
-abbrev pub request_stmt : Context → Request → Option TypedStmt
+abbrev pub request_stmt : Context → RequestForm → Option TypedStmt
 request_stmt c r = where_true (collective_here c) (t.Request (length c.handles) r.group r.output r.element r.amount)

@@ -2,8 +2,8 @@
 use Rattle.std.specs.Prelude.{Option, Some, None}
 use Rattle.wg_typing.specs.Maybe.{◌>>=◌}
 use Rattle.wg_typing.specs.Scope.{Context, enter}
-use Rattle.wg_typing.specs.SiteTree.{Sites, nowhere}
-use Rattle.wg_typing.specs.Sites.{Site}
+use Rattle.wg_typing.specs.Sites.{Sites, nowhere}
+use Rattle.wg_typing.specs.Site.{Site}
 use Rattle.wg_typing.specs.TypingDeclared.{condition_sites}
 use Rattle.wg_typing.specs.TypingStep.{header_trees, header_sites, all_steps}
 use Rattle.wg_typing.specs.TypingDeclaration.{declaration_after, declaration_sites, declaration_trees}

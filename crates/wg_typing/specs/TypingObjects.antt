@@ -118,31 +118,31 @@ argument_types complete parts = []
 
 -- ---- typed forms
 
--- the method of an object, called with these arguments
-abbrev pub called : Place → Place → Object → Method → List TypedExpr → Option Value
-called place name (object.Buffer buffer of) (load n) (address ∷ []) = fixed place (uints n) (tree.Load buffer address)
-called place name (object.Buffer buffer of) (store n) (address ∷ v ∷ []) = act name (act_of.Step (step.Store buffer address v))
-called place name (object.Input many (Some number) standing) get [] = valued standing place (type.Struct number) (tree.Input None)
-called place name (object.Input many (Some number) standing) get (i ∷ []) = valued standing place (type.Struct number) (tree.Input (Some i))
-called place name (object.Input many record_type standing) count [] = fixed place uint_type tree.Count
-called place name (object.Output output array (Some number) element) (request group) (n ∷ []) = act name (act_of.Request group output number element n)
-called place name (object.Output output array None element) (increment group) (n ∷ []) = act name (act_of.Increment group output element n)
-called place name (object.Output output array record_type element) is_valid [] = fixed place truth_type (tree.IsValid output element)
-called place name (object.Handle handle number) get [] = valued standing.Own place (type.Struct number) (tree.Handle handle None)
-called place name (object.Handle handle number) get (i ∷ []) = valued standing.Own place (type.Struct number) (tree.Handle handle (Some i))
-called place name (object.Handle handle number) complete [] = act name (act_of.Complete handle)
-called place name o m arguments = None
+-- the method of an object, method_form with these arguments
+abbrev pub method_form : Place → Place → Object → Method → List TypedExpr → Option Value
+method_form place name (object.Buffer buffer of) (load n) (address ∷ []) = fixed place (uints n) (tree.Load buffer address)
+method_form place name (object.Buffer buffer of) (store n) (address ∷ v ∷ []) = act name (act_of.Step (step.Store buffer address v))
+method_form place name (object.Input many (Some number) standing) get [] = valued standing place (type.Struct number) (tree.Input None)
+method_form place name (object.Input many (Some number) standing) get (i ∷ []) = valued standing place (type.Struct number) (tree.Input (Some i))
+method_form place name (object.Input many record_type standing) count [] = fixed place uint_type tree.Count
+method_form place name (object.Output output array (Some number) element) (request group) (n ∷ []) = act name (act_of.Request group output number element n)
+method_form place name (object.Output output array None element) (increment group) (n ∷ []) = act name (act_of.Increment group output element n)
+method_form place name (object.Output output array record_type element) is_valid [] = fixed place truth_type (tree.IsValid output element)
+method_form place name (object.Handle handle number) get [] = valued standing.Own place (type.Struct number) (tree.Handle handle None)
+method_form place name (object.Handle handle number) get (i ∷ []) = valued standing.Own place (type.Struct number) (tree.Handle handle (Some i))
+method_form place name (object.Handle handle number) complete [] = act name (act_of.Complete handle)
+method_form place name o m arguments = None
 
 -- the place of the whole expression and that of the method's name
 abbrev pub method_value : Place → Place → Object → Method → List Part → Option Value
 method_value place name (object.Buffer buffer of) (interlocked f) parts = interlocked_raw name f buffer parts
-method_value place name o m parts = fit_all (argument_types m parts) parts >>= called place name o m
+method_value place name o m parts = fit_all (argument_types m parts) parts >>= method_form place name o m
 
 -- ---- elements
 
-abbrev pub buffer_element : Place → ℕ → TypedBufferType → TypedExpr → Option Value
-buffer_element place buffer (buffer_type.Raw writable) i = None
-buffer_element place buffer (buffer_type.Structured writable of) i =
+abbrev pub element_of_buffer : Place → ℕ → TypedBufferType → TypedExpr → Option Value
+element_of_buffer place buffer (buffer_type.Raw writable) i = None
+element_of_buffer place buffer (buffer_type.Structured writable of) i =
     valued (if writable then standing.Memory else standing.Fixed) place of (tree.Element buffer i)
 
 abbrev pub input_element : Place → Bool → Option ℕ → Standing → TypedExpr → Option Value
@@ -157,7 +157,7 @@ output_element output false record_type element i = None
 
 -- the element of an object at an index; none where it has no elements
 abbrev pub element_value : Place → Object → TypedExpr → Option Value
-element_value place (object.Buffer buffer of) i = buffer_element place buffer of i
+element_value place (object.Buffer buffer of) i = element_of_buffer place buffer of i
 element_value place (object.Input many record_type standing) i = input_element place many record_type standing i
 element_value place (object.Output output array record_type element) i = output_element output array record_type element i
 element_value place (object.Handle handle number) i = valued standing.Own place (type.Struct number) (tree.Handle handle (Some i))

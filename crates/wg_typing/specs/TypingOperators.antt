@@ -2,7 +2,7 @@
 use Rattle.std.specs.Prelude.{◌&&◌, if◌then◌else◌, List, [], ◌∷◌, ◌++◌, Option, Some, None}
 use Rattle.wg_words.specs.declared.place.Place.{Place}
 use Rattle.wg_typing.specs.Maybe.{◌>>=◌, where_true}
-use Rattle.wg_typing.specs.Conversions.{Numbers, numbers, type_of, truth_type, same_type, fits, counted, truths, chosen, class_of, suits, Operation, operation_on}
+use Rattle.wg_typing.specs.Conversions.{Numbers, numbers, type_of, truth_type, same_type, fits, counted, truths, common_numbers, class_of, suits, Operation, operation_on}
 use Rattle.wg_typing.specs.Layers.{LinkLayer, Part, typed_part, convert, fit, fixed}
 use Rattle.wg_tree.specs.declared.expr.PrefixOperator.{PrefixOperator}
 use Rattle.wg_tree.specs.declared.expr.PrefixOperator.TheVariants as prefix
@@ -53,7 +53,7 @@ choice_value place test first second = do
   b ← typed_part second
   m ← numbers a.of
   n ← numbers b.of
-  c ← chosen m n
+  c ← common_numbers m n
   then_tree ← convert (type_of c) a
   else_tree ← convert (type_of c) b
   fixed place (type_of c) (tree.Choice condition then_tree else_tree)

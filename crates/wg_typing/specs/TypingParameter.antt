@@ -4,8 +4,8 @@ use Rattle.wg_typing.specs.Maybe.{◌>>=◌, where_true}
 use Rattle.wg_typing.specs.Scope.{Context, Around, in_entry, in_plain, in_const, own_names, declare, named_type}
 use Rattle.wg_typing.specs.TypingAttributes.{attributes_of, attribute_sites}
 use Rattle.wg_typing.specs.TypingHandle.{record_number, object_sites}
-use Rattle.wg_typing.specs.SiteTree.{Sites, nowhere, only, ◌&◌}
-use Rattle.wg_typing.specs.Sites.{Site, AtType, AtName, AtLimit}
+use Rattle.wg_typing.specs.Sites.{Sites, nowhere, only, ◌&◌}
+use Rattle.wg_typing.specs.Site.{Site, AtType, AtName, AtLimit}
 use Rattle.wg_tree.specs.declared.expr.Named.{Named}
 use Rattle.wg_tree.specs.declared.expr.TypeName.{TypeName}
 use Rattle.wg_tree.specs.declared.stmt.ObjectType.{ObjectType}
@@ -82,20 +82,20 @@ takes_role in_plain has_input role = false
 takes_role (in_const allowed) has_input role = false
 
 -- the record type of an object that stands where it may: none where it is broken
-pub data Holds : Type 0 where
-  empty : Holds
-  records : ℕ → Holds
-  unsure_records : Holds
+pub data HeldRecords : Type 0 where
+  empty : HeldRecords
+  records : ℕ → HeldRecords
+  unsure_records : HeldRecords
 
-abbrev pub holds_if : Option ℕ → Holds
+abbrev pub holds_if : Option ℕ → HeldRecords
 holds_if (Some number) = records number
 holds_if None = unsure_records
 
-abbrev pub holds_named : Option TypeName → Option ℕ → Holds
+abbrev pub holds_named : Option TypeName → Option ℕ → HeldRecords
 holds_named None number = empty
 holds_named (Some of) number = holds_if number
 
-abbrev pub holds : Context → ObjectType → Holds
+abbrev pub holds : Context → ObjectType → HeldRecords
 holds c of = holds_named of.record_type (record_number c of)
 
 abbrev pub input_or_output : Role → ℕ → Option ℕ → Option Object
@@ -103,7 +103,7 @@ input_or_output (an_input many s) outputs record_type = Some (object.Input many 
 input_or_output (an_output array) outputs record_type = Some (object.Output outputs array record_type None)
 input_or_output no_role outputs record_type = None
 
-abbrev pub role_object : Role → ℕ → Holds → Option Object
+abbrev pub role_object : Role → ℕ → HeldRecords → Option Object
 role_object role outputs empty = input_or_output role outputs None
 role_object role outputs (records number) = input_or_output role outputs (Some number)
 role_object role outputs unsure_records = None
@@ -145,7 +145,7 @@ parameters_sites b (p ∷ rest) c =
     attribute_sites c p.attributes & parameter_type_sites c b p.name p.of & only (AtName (own_names c) p.name)
     & output_site b p.name p.of & parameters_sites (one_more p.of b) rest (with_parameter b p c)
 
-abbrev pub object_tree : Context → ObjectType → Holds → Option TypedParameterType
+abbrev pub object_tree : Context → ObjectType → HeldRecords → Option TypedParameterType
 object_tree c of empty = Some (typed_parameter.Object of.place of.word None)
 object_tree c of (records number) = Some (typed_parameter.Object of.place of.word (Some number))
 object_tree c of unsure_records = None

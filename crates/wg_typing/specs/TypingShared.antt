@@ -4,8 +4,8 @@ use Rattle.wg_typing.specs.Maybe.{◌>>=◌}
 use Rattle.wg_typed.specs.Layout.{words_of}
 use Rattle.wg_typing.specs.Scope.{named_type}
 use Rattle.wg_typing.specs.TypingDeclared.{declared_type}
-use Rattle.wg_typing.specs.SiteTree.{Sites, nowhere, only}
-use Rattle.wg_typing.specs.Sites.{Site, AtLimit}
+use Rattle.wg_typing.specs.Sites.{Sites, nowhere, only}
+use Rattle.wg_typing.specs.Site.{Site, AtLimit}
 use Rattle.wg_typing.specs.TypingSoFar.{Text, outside}
 use Rattle.wg_tree.specs.declared.expr.Expr.{Expr}
 use Rattle.wg_tree.specs.declared.expr.Named.{Named}

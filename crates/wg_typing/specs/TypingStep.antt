@@ -7,8 +7,8 @@ use Rattle.wg_typing.specs.Layers.{Part, TypedPart, typed_part, convert, fit}
 use Rattle.wg_typing.specs.TypingInterlocked.{is_fixed}
 use Rattle.wg_typing.specs.TypingExpr.{part, sites_of}
 use Rattle.wg_typing.specs.TypingOperators.{suited}
-use Rattle.wg_typing.specs.SiteTree.{Sites, nowhere, only, ◌&◌}
-use Rattle.wg_typing.specs.Sites.{Site, AtStep}
+use Rattle.wg_typing.specs.Sites.{Sites, nowhere, only, ◌&◌}
+use Rattle.wg_typing.specs.Site.{Site, AtStep}
 use Rattle.wg_tree.specs.declared.expr.BinaryOperator.{BinaryOperator}
 use Rattle.wg_tree.specs.declared.expr.BinaryOperator.TheVariants as binary
 use Rattle.wg_tree.specs.declared.stmt.AssignOperator.{AssignOperator}
@@ -61,8 +61,8 @@ operator_of assign.BitXor = Some binary.BitXor
 operator_of assign.BitOr = Some binary.BitOr
 
 -- a target that can be assigned
-abbrev pub target_of : Part → Option TypedPart
-target_of p = typed_part p >>= (λ t. where_true (not (is_fixed t.standing)) t)
+abbrev pub assignable_target : Part → Option TypedPart
+assignable_target p = typed_part p >>= (λ t. where_true (not (is_fixed t.standing)) t)
 
 -- the result converts back to the target's type
 abbrev pub updated : BinaryOperator → TypedPart → TypedPart → Option Did
@@ -74,17 +74,17 @@ updated operator target v = do
 
 abbrev pub assigned : Option BinaryOperator → Part → Part → Option Did
 assigned None target v = do
-  to ← target_of target
+  to ← assignable_target target
   from ← fit to.of v
   Some (a_step (typed_step.Assign to.tree from))
 assigned (Some operator) target v = do
-  to ← target_of target
+  to ← assignable_target target
   from ← typed_part v
   updated operator to from
 
 abbrev pub changed : StepOperator → Part → Option Did
 changed operator target = do
-  to ← target_of target
+  to ← assignable_target target
   where_true (is_number to.of) (a_step (typed_step.Change to.tree operator))
 
 abbrev pub step_did : Context → Step → Option Did

@@ -3,11 +3,11 @@ use Rattle.std.specs.Prelude.{false, List, [], ◌∷◌, Option, Some, None}
 use Rattle.wg_words.specs.declared.place.Place.{Place}
 use Rattle.wg_typing.specs.Maybe.{◌>>=◌, where_true, if_there}
 use Rattle.wg_typing.specs.Conversions.{truth_type}
-use Rattle.wg_typing.specs.Scope.{Context, Gives, nothing, a_value, unsure, enter, enter_loop, leave}
+use Rattle.wg_typing.specs.Scope.{Context, GivesBack, nothing, a_value, unsure, enter, enter_loop, leave}
 use Rattle.wg_typing.specs.TypingExpr.{sites_of}
 use Rattle.wg_typing.specs.TypingAttributes.{attributes_of, attribute_sites}
-use Rattle.wg_typing.specs.SiteTree.{Sites, nowhere, only, ◌&◌}
-use Rattle.wg_typing.specs.Sites.{Site, AtReturn, AtJump}
+use Rattle.wg_typing.specs.Sites.{Sites, nowhere, only, ◌&◌}
+use Rattle.wg_typing.specs.Site.{Site, AtReturn, AtJump}
 use Rattle.wg_typing.specs.TypingDeclared.{fit_in, condition_sites}
 use Rattle.wg_typing.specs.TypingStep.{step_did, step_sites, step_stmt, header_trees, header_sites, maybe_steps}
 use Rattle.wg_typing.specs.TypingDeclaration.{declaration_after, declaration_sites, declaration_trees}
@@ -95,7 +95,7 @@ stmt_sites (Stmt-F.For attributes place h body) c =
     & header_sites (in_header h c) (maybe_steps h.steps) & (body (enter_loop (in_header h c))).sites
 
 -- the value that a function gives back
-abbrev pub returned_tree : Context → Gives → Option Expr → Option TypedStmt
+abbrev pub returned_tree : Context → GivesBack → Option Expr → Option TypedStmt
 returned_tree c nothing None = Some (t.Return None)
 returned_tree c nothing (Some e) = None
 returned_tree c (a_value of) None = None

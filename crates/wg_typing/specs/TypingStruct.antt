@@ -5,8 +5,8 @@ use Rattle.wg_typed.specs.Layout.{words_of}
 use Rattle.wg_typing.specs.Scope.{Context, named_type}
 use Rattle.wg_typing.specs.TypingAttributes.{attributes_of}
 use Rattle.wg_typing.specs.TypingDeclared.{type_limit, declared_type, declared_sites}
-use Rattle.wg_typing.specs.SiteTree.{Sites, nowhere, only, ◌&◌}
-use Rattle.wg_typing.specs.Sites.{Site, AtType, AtLimit}
+use Rattle.wg_typing.specs.Sites.{Sites, nowhere, only, ◌&◌}
+use Rattle.wg_typing.specs.Site.{Site, AtType, AtLimit}
 use Rattle.wg_typing.specs.TypingSoFar.{Text, with_name}
 use Rattle.wg_tree.specs.declared.expr.Named.{Named}
 use Rattle.wg_tree.specs.declared.stmt.Attribute.{Attribute}

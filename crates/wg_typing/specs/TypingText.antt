@@ -4,8 +4,8 @@ use Rattle.wg_typing.specs.Maybe.{◌>>=◌, all_of}
 use Rattle.wg_typing.specs.Scope.{named_type}
 use Rattle.wg_typing.specs.TypingAttributes.{attribute_sites}
 use Rattle.wg_typing.specs.TypingDeclared.{declared_sites}
-use Rattle.wg_typing.specs.SiteTree.{Sites, nowhere, only, ◌&◌}
-use Rattle.wg_typing.specs.Sites.{Site, AtType, AtName, AtLimit}
+use Rattle.wg_typing.specs.Sites.{Sites, nowhere, only, ◌&◌}
+use Rattle.wg_typing.specs.Site.{Site, AtType, AtName, AtLimit}
 use Rattle.wg_typing.specs.TypingSoFar.{Text, outside, text_names, with_name}
 use Rattle.wg_typing.specs.TypingStruct.{fields_sites, struct_of_fields, struct_tree, struct_limit, with_struct}
 use Rattle.wg_typing.specs.TypingBuffer.{buffer_limit, buffer_of, buffer_meant, buffer_tree, element_sites}

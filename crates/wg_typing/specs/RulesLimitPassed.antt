@@ -1,12 +1,12 @@
 -- LimitPassed: a limit on sizes, buffers, outputs or calls, or an array size below 1; the declaring or called name. Own.
 use Rattle.std.specs.Prelude.{ℕ, ◌+◌, not, nat_lt, List, [], ◌∷◌, ◌++◌, Option, Some, None}
 use Rattle.wg_words.specs.declared.place.Place.{Place}
-use Rattle.wg_typing.specs.TypingCallee.{Callee, plain, entry, itself, builtin, broken, unknown, callee}
+use Rattle.wg_typing.specs.TypingCallee.{CalledName, plain, entry, itself, builtin, broken, unknown, callee}
 use Rattle.wg_typing.specs.TypingFunctionCall.{chain_fits}
 use Rattle.wg_typing.specs.AttributeArguments.{is_positive}
-use Rattle.wg_typing.specs.SiteTree.{at_if}
+use Rattle.wg_typing.specs.Sites.{at_if}
 use Rattle.wg_typing.specs.RulesShared.{of_call}
-use Rattle.wg_typing.specs.Sites.{Site, AtExpr, AtFlag, AtWanted, AtConst, AtStep, AtHandle, AtReturn, AtJump, AtType, AtName, AtSize, AtLocal, AtLimit, AtObject, AtFunction, Event, declares, requests, completes, collective, returns, calls}
+use Rattle.wg_typing.specs.Site.{Site, AtExpr, AtFlag, AtWanted, AtConst, AtStep, AtHandle, AtReturn, AtJump, AtType, AtName, AtSize, AtLocal, AtLimit, AtObject, AtFunction, Event, declares, requests, completes, collective, returns, calls}
 use Rattle.wg_tree.specs.declared.expr.Named.{Named}
 use Rattle.wg_typed.specs.declared.types.ConstValue.{ConstValue}
 
@@ -24,7 +24,7 @@ locals_beyond before (collective ∷ rest) = locals_beyond before rest
 locals_beyond before (returns place ∷ rest) = locals_beyond before rest
 locals_beyond before (calls chain ∷ rest) = locals_beyond before rest
 
-abbrev pub chain_beyond : Place → Callee → List Place
+abbrev pub chain_beyond : Place → CalledName → List Place
 chain_beyond name (plain number result parameters chain) = at_if (not (chain_fits chain)) name
 chain_beyond name entry = []
 chain_beyond name itself = []

@@ -7,13 +7,13 @@ use Rattle.wg_typing.specs.Scope.{Context}
 use Rattle.wg_typing.specs.Layers.{Layer, FormLayer, member, method, index, Part, all_typed_parts}
 use Rattle.wg_typing.specs.TypingInterlocked.{operands}
 use Rattle.wg_typing.specs.TypingObjects.{Method, method_of, takes}
-use Rattle.wg_typing.specs.TypingCallee.{Callee, plain, entry, itself, builtin, broken, unknown, Builtin, on_numbers, interlocked, levels, barrier, barrier_of, callee}
+use Rattle.wg_typing.specs.TypingCallee.{CalledName, plain, entry, itself, builtin, broken, unknown, Builtin, on_numbers, interlocked, levels, barrier, barrier_of, callee}
 use Rattle.wg_typing.specs.TypingIntrinsic.{arity_of, all_numbers}
 use Rattle.wg_typing.specs.TypingConstructor.{component_count, components}
 use Rattle.wg_typing.specs.TypingForms.{Along, at_typed, at_other, begun, over_forms}
-use Rattle.wg_typing.specs.SiteTree.{at_if}
+use Rattle.wg_typing.specs.Sites.{at_if}
 use Rattle.wg_typing.specs.RulesShared.{where_typed, all_pieces_whole}
-use Rattle.wg_typing.specs.Sites.{Site, AtExpr, AtFlag, AtWanted, AtConst, AtStep, AtHandle, AtReturn, AtJump, AtType, AtName, AtSize, AtLocal, AtLimit, AtObject, AtFunction}
+use Rattle.wg_typing.specs.Site.{Site, AtExpr, AtFlag, AtWanted, AtConst, AtStep, AtHandle, AtReturn, AtJump, AtType, AtName, AtSize, AtLocal, AtLimit, AtObject, AtFunction}
 use Rattle.wg_typing.specs.RulesMismatchCall.{same_length}
 use Rattle.wg_tree.specs.declared.expr.Expr.TheOpen.{Expr-F}
 use Rattle.wg_typed.specs.declared.typed_stmt.InterlockedForm.{InterlockedForm}
@@ -31,7 +31,7 @@ miscounted_builtin c name levels parts = where_typed parts (at_if (not (length p
 miscounted_builtin c name (barrier syncs) parts = where_typed parts (at_if (not (length parts == 0)) name)
 miscounted_builtin c name barrier_of parts = if all_pieces_whole c parts then at_if (not (length parts == 2)) name else []
 
-abbrev pub miscounted_call : Context → Place → Callee → List Part → List Place
+abbrev pub miscounted_call : Context → Place → CalledName → List Part → List Place
 miscounted_call c name (plain number result parameters chain) parts = where_typed parts (at_if (not (same_length parameters parts)) name)
 miscounted_call c name entry parts = []
 miscounted_call c name itself parts = []

@@ -3,12 +3,12 @@ use Rattle.std.specs.Prelude.{List, [], ◌∷◌, ◌++◌, if◌then◌else◌
 use Rattle.wg_words.specs.declared.place.Place.{Place}
 use Rattle.wg_typing.specs.Scope.{Context, Around, in_entry, in_plain, in_const}
 use Rattle.wg_typing.specs.Layers.{Part}
-use Rattle.wg_typing.specs.TypingCallee.{Callee, plain, entry, itself, builtin, broken, unknown, on_numbers, interlocked, levels, barrier, barrier_of, callee}
+use Rattle.wg_typing.specs.TypingCallee.{CalledName, plain, entry, itself, builtin, broken, unknown, on_numbers, interlocked, levels, barrier, barrier_of, callee}
 use Rattle.wg_typing.specs.TypingExpr.{part}
-use Rattle.wg_typing.specs.SiteTree.{at_if}
+use Rattle.wg_typing.specs.Sites.{at_if}
 use Rattle.wg_typing.specs.RulesShared.{of_call, where_typed, act_at, sync_used, flags_whole}
 use Rattle.wg_typing.specs.TypingActs.{is_syncing}
-use Rattle.wg_typing.specs.Sites.{Site, AtExpr, AtFlag, AtWanted, AtConst, AtStep, AtHandle, AtReturn, AtJump, AtType, AtName, AtSize, AtLocal, AtLimit, AtObject, AtFunction}
+use Rattle.wg_typing.specs.Site.{Site, AtExpr, AtFlag, AtWanted, AtConst, AtStep, AtHandle, AtReturn, AtJump, AtType, AtName, AtSize, AtLocal, AtLimit, AtObject, AtFunction}
 use Rattle.wg_typing.specs.RulesActs.{acts_used, acts_in_step, act_of_step, step_takes_collective, maybe_used}
 
 -- a barrier in a plain function, whatever its arguments are, where no rule is broken in them
@@ -17,7 +17,7 @@ barrier_in_plain (in_entry lanes) places = []
 barrier_in_plain in_plain places = places
 barrier_in_plain (in_const allowed) places = []
 
-abbrev pub barrier_called : Context → Place → Callee → List Part → List Place
+abbrev pub barrier_called : Context → Place → CalledName → List Part → List Place
 barrier_called c name (plain number result parameters chain) parts = []
 barrier_called c name entry parts = []
 barrier_called c name itself parts = []

@@ -4,10 +4,10 @@ use Rattle.wg_words.specs.declared.place.Place.{Place}
 use Rattle.wg_typing.specs.Scope.{Context, Around, in_entry, in_plain, in_const, collective_here}
 use Rattle.wg_typing.specs.TypingExpr.{part}
 use Rattle.wg_typing.specs.TypingStep.{own_handle}
-use Rattle.wg_typing.specs.SiteTree.{at_if}
+use Rattle.wg_typing.specs.Sites.{at_if}
 use Rattle.wg_typing.specs.RulesShared.{act_at, output_used}
 use Rattle.wg_typing.specs.TypingActs.{is_output_act}
-use Rattle.wg_typing.specs.Sites.{Site, AtExpr, AtFlag, AtWanted, AtConst, AtStep, AtHandle, AtReturn, AtJump, AtType, AtName, AtSize, AtLocal, AtLimit, AtObject, AtFunction, Event, declares, requests, completes, collective, returns, calls}
+use Rattle.wg_typing.specs.Site.{Site, AtExpr, AtFlag, AtWanted, AtConst, AtStep, AtHandle, AtReturn, AtJump, AtType, AtName, AtSize, AtLocal, AtLimit, AtObject, AtFunction, Event, declares, requests, completes, collective, returns, calls}
 use Rattle.wg_typing.specs.RulesActs.{acts_used, acts_in_step, act_of_step, step_takes_collective, maybe_used}
 use Rattle.wg_typing.specs.declared.scope.Act.{Act}
 use Rattle.wg_typing.specs.declared.scope.Act.TheVariants as act

@@ -2,10 +2,10 @@
 use Rattle.std.specs.Prelude.{Bool, true, false, not, ◌&&◌, List, [], Option, Some, None}
 use Rattle.wg_words.specs.declared.place.Place.{Place}
 use Rattle.wg_typing.specs.AttributeArguments.{Mode, in_mode, is_broadcasting, is_coalescing, is_thread}
-use Rattle.wg_typing.specs.AttributeSites.{Site, AtAttribute, AtNode, AtInput, AtOutput, AtValue, Position, on_struct, on_node, on_plain, on_input, on_output, on_output_array, on_value, on_branch}
+use Rattle.wg_typing.specs.AttributeSites.{AttributeSite, AtAttribute, AtNode, AtInput, AtOutput, AtValue, Position, on_struct, on_node, on_plain, on_input, on_output, on_output_array, on_value, on_branch}
 use Rattle.wg_typing.specs.AttributeNames.{Name, dispatch_grid, max_dispatch_grid, max_records, standing}
 use Rattle.wg_typing.specs.AttributeSystem.{System, dispatch_thread_id, group_id, group_thread_id, group_index, system_of}
-use Rattle.wg_typing.specs.SiteTree.{at_if}
+use Rattle.wg_typing.specs.Sites.{at_if}
 use Rattle.wg_tree.specs.declared.stmt.ObjectWord.{ObjectWord}
 use Rattle.wg_tree.specs.declared.stmt.ObjectWord.TheVariants as object
 
@@ -56,7 +56,7 @@ abbrev pub is_not_given : Option Mode → Option System → Bool
 is_not_given mode None = false
 is_not_given mode (Some s) = in_mode (λ m. not (gives s m)) mode
 
-abbrev pub wrong_mode_at : Site → List Place
+abbrev pub wrong_mode_at : AttributeSite → List Place
 wrong_mode_at (AtAttribute position before a) = at_if (is_forbidden position (standing position a)) a.name.place
 wrong_mode_at (AtNode f fields) = []
 wrong_mode_at (AtInput mode word p) = at_if (in_mode (λ m. not (takes word m)) mode) p.name.place

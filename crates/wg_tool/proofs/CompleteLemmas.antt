@@ -6,7 +6,7 @@ use Rattle.wg_machine.specs.declared.launch.Sent.{Sent}
 use Rattle.wg_tool.specs.declared.answer.Answer.{Answer}
 use Rattle.wg_tool.specs.declared.answer.Answer.TheVariants.{Done, Refused, Usage, BadScript, ReadFault, WriteFault, OutOfMemory, TooLong}
 use Rattle.wg_tool.specs.declared.answer.Input.TheVariants as input
-use Rattle.wg_tool.specs.declared.limits.TheConstants.{FILE_BYTES}
+use Rattle.wg_words.specs.declared.limits.TheConstants.{MOST_FILE_BYTES}
 use Rattle.wg_tool.specs.declared.pair.Pair.{Pair}
 use Rattle.wg_tool.specs.Answers.{Concludes, status_of}
 use Rattle.wg_tool.specs.FirstForm.{graph_text, IsFirstForm, IsNoGraph}
@@ -83,11 +83,11 @@ complete words old new before now status pairs entries h f = by h.0 h.1 h.2
     by (ReadFault input.Script) e k = let r = run_says words old new f.graph f.script (ReadFault input.Script) k.0 f.run k.1 in absurd (f.script_read r.rose)
     by (TooLong input.Graph) e k =
         let r = run_says words old new f.graph f.script (TooLong input.Graph) k.0 f.run k.1 in
-        let long = of_told (old.told f.graph) (graph_text pairs) (λ (b : List ℕ). FILE_BYTES < length b) f.graph_told r.longer in
+        let long = of_told (old.told f.graph) (graph_text pairs) (λ (b : List ℕ). MOST_FILE_BYTES < length b) f.graph_told r.longer in
         let fits = f.graph_fits in
         absurd (omega arith)
     by (TooLong input.Script) e k =
         let r = run_says words old new f.graph f.script (TooLong input.Script) k.0 f.run k.1 in
-        let long = of_told (old.told f.script) (script_text pairs entries) (λ (b : List ℕ). FILE_BYTES < length b) f.script_told r.longer in
+        let long = of_told (old.told f.script) (script_text pairs entries) (λ (b : List ℕ). MOST_FILE_BYTES < length b) f.script_told r.longer in
         let fits = f.script_fits in
         absurd (omega arith)

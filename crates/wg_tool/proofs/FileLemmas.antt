@@ -8,7 +8,7 @@ use Rattle.wg_tool.specs.declared.answer.Answer.{Answer}
 use Rattle.wg_tool.specs.declared.answer.Answer.TheVariants.{Done, Refused, Usage, BadScript, ReadFault, WriteFault, OutOfMemory, TooLong}
 use Rattle.wg_tool.specs.declared.answer.Input.{Input}
 use Rattle.wg_tool.specs.declared.answer.Input.TheVariants as input
-use Rattle.wg_tool.specs.declared.limits.TheConstants.{FILE_BYTES}
+use Rattle.wg_words.specs.declared.limits.TheConstants.{MOST_FILE_BYTES}
 use Rattle.wg_tool.specs.declared.pair.Pair.{Pair}
 use Rattle.wg_tool.specs.Headline.{FilesView, OfFile, IsGraph, Reports, ReportsScript, IsBadScript, RunSays, too_long_line}
 use Rattle.wg_tool.specs.Script.{IsNoScript}
@@ -32,17 +32,17 @@ file_read old new pairs name bytes same (TooLong i) t h = absurd h
 -- what a fault of reading shows
 pub record FaultShows (old new : FilesView) (name : List ℕ) (f : FileFault) : Type 0 where
   pub failed : f ≡ fault.Failed → Rose (old.faults name) (new.faults name)
-  pub given : (n : ℕ) → f ≡ fault.TooLong n → n ≡ FILE_BYTES
-  pub beyond : f ≡ fault.TooLong FILE_BYTES → RoseBeyond FILE_BYTES (old.taken name) (new.taken name)
-  pub longer : f ≡ fault.TooLong FILE_BYTES → IfSome (old.told name) (λ (bytes : List ℕ). FILE_BYTES < length bytes)
+  pub given : (n : ℕ) → f ≡ fault.TooLong n → n ≡ MOST_FILE_BYTES
+  pub beyond : f ≡ fault.TooLong MOST_FILE_BYTES → RoseBeyond MOST_FILE_BYTES (old.taken name) (new.taken name)
+  pub longer : f ≡ fault.TooLong MOST_FILE_BYTES → IfSome (old.told name) (λ (bytes : List ℕ). MOST_FILE_BYTES < length bytes)
 
 -- the script was not read
 pub file_fault : (old new : FilesView) (pairs : List Pair) (name : List ℕ) (f : FileFault) → FaultShows old new name f → (a : Answer) (t : List ℕ) → FaultSays f input.Script name a t → FileSays old new pairs name a t
 file_fault old new pairs name fault.Failed s a t h =
     subst (λ (x : Answer). FileSays old new pairs name x t) (sym h.0) (refl, s.failed refl, h.1)
 file_fault old new pairs name (fault.TooLong n) s a t h =
-    let limit : n ≡ FILE_BYTES = s.given n refl in
-    let f : fault.TooLong n ≡ fault.TooLong FILE_BYTES = ap (λ (k : ℕ). fault.TooLong k) limit in
+    let limit : n ≡ MOST_FILE_BYTES = s.given n refl in
+    let f : fault.TooLong n ≡ fault.TooLong MOST_FILE_BYTES = ap (λ (k : ℕ). fault.TooLong k) limit in
     subst (λ (x : Answer). FileSays old new pairs name x t) (sym h.0) (refl, s.beyond f, s.longer f, h.1 ∙ ap (λ (k : ℕ). too_long_line name k) limit)
 file_fault old new pairs name fault.Memory s a t h = absurd h
 
@@ -52,8 +52,8 @@ graph_fault old new graph script fault.Failed s a t h =
     let says : RunSays old new graph script (ReadFault input.Graph) t = record { reached = tt; rose = s.failed refl; line = h.1 } in
     subst (λ (x : Answer). RunSays old new graph script x t) (sym h.0) says
 graph_fault old new graph script (fault.TooLong n) s a t h =
-    let limit : n ≡ FILE_BYTES = s.given n refl in
-    let f : fault.TooLong n ≡ fault.TooLong FILE_BYTES = ap (λ (k : ℕ). fault.TooLong k) limit in
+    let limit : n ≡ MOST_FILE_BYTES = s.given n refl in
+    let f : fault.TooLong n ≡ fault.TooLong MOST_FILE_BYTES = ap (λ (k : ℕ). fault.TooLong k) limit in
     let says : RunSays old new graph script (TooLong input.Graph) t = record { reached = tt; rose = s.beyond f; longer = s.longer f; line = h.1 ∙ ap (λ (k : ℕ). too_long_line graph k) limit } in
     subst (λ (x : Answer). RunSays old new graph script x t) (sym h.0) says
 graph_fault old new graph script fault.Memory s a t h = absurd h
@@ -82,9 +82,9 @@ graph_read old mid new graph script bytes pairs once same is (ReadFault i) t h =
     record { reached = (bytes, same, (pairs, is)); rose = rose_after 0 (old.faults script) (mid.faults script) (new.faults script) (once.faults script) h.1; line = h.2 } in
     subst (λ (x : Input). RunSays old new graph script (ReadFault x) t) (sym h.0) says
 graph_read old mid new graph script bytes pairs once same is (TooLong i) t h =
-    let longer : IfSome (old.told script) (λ (b : List ℕ). FILE_BYTES < length b) = subst (λ (o : Option (List ℕ)). IfSome o (λ (b : List ℕ). FILE_BYTES < length b)) (once.same script) h.2 in
+    let longer : IfSome (old.told script) (λ (b : List ℕ). MOST_FILE_BYTES < length b) = subst (λ (o : Option (List ℕ)). IfSome o (λ (b : List ℕ). MOST_FILE_BYTES < length b)) (once.same script) h.2 in
     let says : RunSays old new graph script (TooLong input.Script) t =
-    record { reached = (bytes, same, (pairs, is)); rose = rose_after FILE_BYTES (old.taken script) (mid.taken script) (new.taken script) (once.taken script) h.1; longer = longer; line = h.3 } in
+    record { reached = (bytes, same, (pairs, is)); rose = rose_after MOST_FILE_BYTES (old.taken script) (mid.taken script) (new.taken script) (once.taken script) h.1; longer = longer; line = h.3 } in
     subst (λ (x : Input). RunSays old new graph script (TooLong x) t) (sym h.0) says
 graph_read old mid new graph script bytes pairs once same is Refused t h = absurd h
 graph_read old mid new graph script bytes pairs once same is Usage t h = absurd h

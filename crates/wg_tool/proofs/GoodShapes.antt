@@ -10,13 +10,15 @@ use Rattle.std.proofs.lemmas.Slice.Eq.{bytes_eq-Decides}
 use Rattle.std.proofs.lemmas.List.{length-map}
 use Rattle.std.proofs.lemmas.List.Quantifiers.{position-Some}
 use Rattle.std.proofs.lemmas.Option.{slice_get_within, none-some, slice_get-get_or}
+use Rattle.wg_words.specs.Characters.{is_identifier, is_letter, is_word}
 use Rattle.wg_words.specs.Each.{Each}
 use Rattle.wg_machine.specs.declared.shape.NodeName.{NodeName}
 use Rattle.wg_machine.specs.declared.shape.Output.{Output}
 use Rattle.wg_machine.specs.declared.shape.Shape.{Shape}
 use Rattle.wg_machine.specs.declared.shape.Unit.{Unit}
-use Rattle.wg_machine.specs.GoodShape.{IsGoodShape, IsGoodUnit, IsGoodOutput, IsGoodTarget, IsBetween, IsAlike, is_identifier, is_letter, is_digit}
+use Rattle.wg_machine.specs.GoodShape.{IsGoodShape, IsGoodUnit, IsGoodOutput, IsGoodTarget, IsBetween, IsAlike}
 use Rattle.wg_machine.specs.Unrolling.{depth_of, node_at, IsFirst, node_and_level, unrolled}
+use Rattle.wg_machine.specs.Units.{shared_at}
 use Rattle.wg_tool.specs.declared.pair.Pair.{Pair}
 use Rattle.wg_tool.specs.declared.pair.Sends.{Sends}
 use Rattle.wg_tool.specs.Parts.{is_name}
@@ -121,6 +123,7 @@ good_unit_of nodes ts k d t few later at e =
       few_outputs = few_outputs t;
       outputs = good_outputs nodes ts k d t later at e;
       bools = tt;
+      shared = λ yes. absurd (cc);
     }
 
 good_unit : (nodes : List NodeName) (ts : List (Option ℕ)) → length ts ≤ 32 → IsTrue (are_later (length ts) 0 ts) → (k : ℕ) (u : Unit) → slice_get (units_of ts) k ≡ Some u → IsGoodUnit (wired nodes ts) k u
@@ -131,7 +134,7 @@ good_unit nodes ts few later k u e =
     subst (λ (x : Unit). IsGoodUnit (wired nodes ts) k x) (sym is) (good_unit_of nodes ts k i.depth i.target few later i.at (e ∙ ap (λ (x : Unit). Some x) is))
 
 alike_self : (a : Unit) → IsAlike a a
-alike_self a = record { words = refl; kind = refl; budgets = refl; bools = refl; outputs = refl }
+alike_self a = record { words = refl; kind = refl; budgets = refl; bools = refl; shared = refl; outputs = refl }
 
 good_alike : (ts : List (Option ℕ)) (i j : ℕ) (a b : Unit) → slice_get (units_of ts) i ≡ Some a → slice_get (units_of ts) j ≡ Some b → a.node ≡ b.node → IsAlike a b
 good_alike ts i j a b p q e =
@@ -176,19 +179,19 @@ targets_later n k (p ∷ pairs) e =
 upper_letter : (c : ℕ) → IsTrue (is_ascii_uppercase c) → IsTrue (is_letter c)
 upper_letter c h = grind (arith, nat_tests)
 
-lower_letters : (cs : List ℕ) → IsTrue (list_all is_ascii_lowercase cs) → IsTrue (list_all (λ b. is_letter b || is_digit b) cs)
+lower_letters : (cs : List ℕ) → IsTrue (list_all is_ascii_lowercase cs) → IsTrue (list_all is_word cs)
 lower_letters [] h = refl
 lower_letters (c ∷ cs) h =
     let parts = and_both (is_ascii_lowercase c) (list_all is_ascii_lowercase cs) h in
     let low = parts.0 in
-    both_and (is_letter c || is_digit c) (list_all (λ b. is_letter b || is_digit b) cs) (grind (arith, nat_tests)) (lower_letters cs parts.1)
+    both_and (is_word c) (list_all is_word cs) (grind (arith, nat_tests)) (lower_letters cs parts.1)
 
 name_identifier : (name : List ℕ) → IsTrue (is_name name) → IsTrue (is_identifier name)
 name_identifier [] h = absurd (cc)
 name_identifier (c ∷ []) h = absurd (cc)
 name_identifier (c ∷ d ∷ cs) h =
     let parts = and_both (is_ascii_uppercase c) (list_all is_ascii_lowercase (d ∷ cs)) h in
-    both_and (is_letter c) (list_all (λ b. is_letter b || is_digit b) (d ∷ cs)) (upper_letter c parts.0) (lower_letters (d ∷ cs) parts.1)
+    both_and (is_letter c) (list_all is_word (d ∷ cs)) (upper_letter c parts.0) (lower_letters (d ∷ cs) parts.1)
 
 good_names : (pairs : List Pair) → Each IsGoodPair pairs → Each (λ (n : NodeName). IsTrue (is_identifier n.name)) (map node_of pairs)
 good_names [] all = tt
@@ -278,9 +281,19 @@ wired_at nodes ts u t later at =
       budgets = ap (λ (o : Option Unit). unwrap_or (option_map (λ (n : Unit). n.budgets) o) []) w.1 ∙ budget;
     }
 
+none_share : (nodes : List NodeName) (ts : List (Option ℕ)) (u : ℕ) → shared_at (wired nodes ts) u ≡ false
+none_share nodes ts u = by (slice_get (units_of ts) u) refl
+  where
+    by : (o : Option Unit) → slice_get (units_of ts) u ≡ o → unwrap_or (option_map (λ (n : Unit). n.shared) o) false ≡ false
+    by None e = refl
+    by (Some x) e = ap (λ (n : Unit). n.shared) (unit_at ts [] 0 u ts x e).is
+
 -- the shape of a graph is wired to its targets
 pub graph_wired : (pairs : List Pair) → IsWired (shape_of pairs) (targets_of pairs)
-graph_wired pairs u t e =
+graph_wired pairs =
     let ts = targets_of pairs in
     let n = length_targets 0 pairs in
-    wired_at (map node_of pairs) ts u t (targets_later (length ts) 0 pairs (omega arith)) (target_there ts u t e)
+    record {
+      sends = λ u t e. wired_at (map node_of pairs) ts u t (targets_later (length ts) 0 pairs (omega arith)) (target_there ts u t e);
+      none_shared = none_share (map node_of pairs) ts;
+    }

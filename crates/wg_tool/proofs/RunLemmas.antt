@@ -7,6 +7,7 @@ use Rattle.wg_machine.specs.LaunchMeaning.{Meaning}
 use Rattle.wg_standing.specs.declared.pending.Pending.{Pending}
 use Rattle.wg_standing.specs.Core.{CoreView}
 use Rattle.wg_standing.specs.Moves.{TakesStep}
+use Rattle.wg_standing.specs.Outs.{launch_now}
 use Rattle.std.specs.Prelude.{slice_get, slice_index, unwrap_or}
 use Rattle.std.specs.Option.{option_map}
 use Rattle.std.proofs.Common.{Option, ◌^◌, ◌%◌}
@@ -47,7 +48,7 @@ lone (x ∷ y ∷ before) later p o e = absurd (cc)
 -- the one launch that was out has made its step
 pub ran_one : (made : Meaning) (old new : CoreView) (ticket : ℕ) → IsOnlyOut old ticket → TakesStep made old new ticket → RanOne old new
 ran_one made old new ticket out s =
-    let e = entry_of s.pending.launch s.pending.at old.next s.outcome in
+    let e = entry_of (launch_now old.shape old.bag s.pending) s.pending.at old.next s.outcome in
     record {
       ready = record {
         outs = ap (λ (c : CoreView). c.outs) s.after ∙ lone s.before s.later s.pending out.pending (sym s.was_out ∙ out.out);

@@ -17,7 +17,7 @@ use Rattle.wg_tool.specs.declared.pair.Pair.{Pair}
 use Rattle.wg_tool.specs.declared.script.TheConstants.{SCRIPT_LINE, ENTRY, BLANK, LINE_END}
 use Rattle.wg_tool.specs.Parts.{is_name, ends_name}
 use Rattle.wg_tool.specs.FirstForm.{IsGoodPair, IsFirstForm, is_named, names_differ}
-use Rattle.wg_tool.specs.Script.{entry_line, name_at, line_of, entry_lines, script_text, IsFormEntry}
+use Rattle.wg_tool.specs.Script.{entry_line, pair_name_at, line_of, entry_lines, script_text, IsFormEntry}
 use Rattle.wg_tool.specs.Wiring.{node_of, targets_of, is_free}
 use Rattle.wg_tool.proofs.PartLemmas.{name_once, word_once}
 use Rattle.wg_tool.proofs.FormLemmas.{all_regrouped, after_part}
@@ -42,7 +42,7 @@ line_once m n a b v w p q f g e =
 no_pair : Pair
 no_pair = record { name = []; sends = None }
 
-name_is : (pairs : List Pair) (u : ℕ) → u < length pairs → name_at pairs u ≡ (get_or pairs u no_pair).name
+name_is : (pairs : List Pair) (u : ℕ) → u < length pairs → pair_name_at pairs u ≡ (get_or pairs u no_pair).name
 name_is pairs u h = ap (λ (o : Option Pair). unwrap_or (option_map (λ (p : Pair). p.name) o) []) (slice_get-get_or pairs u no_pair h)
 
 node_there : (pairs : List Pair) (u : ℕ) → u < length pairs → slice_get (map node_of pairs) u ≡ Some (node_of (get_or pairs u no_pair))
@@ -52,7 +52,7 @@ node_equal : (m n : List ℕ) → m ≡ n → let a : NodeName = record { name =
 node_equal m n e = rw e refl
 
 -- one pair has a name
-pub name_place : (pairs : List Pair) (i j : ℕ) → IsTrue (names_differ pairs) → i < length pairs → j < length pairs → name_at pairs i ≡ name_at pairs j → i ≡ j
+pub name_place : (pairs : List Pair) (i j : ℕ) → IsTrue (names_differ pairs) → i < length pairs → j < length pairs → pair_name_at pairs i ≡ pair_name_at pairs j → i ≡ j
 name_place pairs i j d p q e =
     let same : (get_or pairs i no_pair).name ≡ (get_or pairs j no_pair).name = sym (name_is pairs i p) ∙ (e ∙ name_is pairs j q) in
     let node = node_equal (get_or pairs i no_pair).name (get_or pairs j no_pair).name same in
@@ -62,26 +62,26 @@ named_true : (name : List ℕ) (p : Pair) → is_named name p ≡ true → p.nam
 named_true name p e = (bytes_eq-Decides p.name name).0 e
 
 -- the place of a pair's name is the pair's
-pub place_is : (pairs : List Pair) (u : ℕ) → IsTrue (names_differ pairs) → u < length pairs → position (is_named (name_at pairs u)) pairs ≡ Some u
+pub place_is : (pairs : List Pair) (u : ℕ) → IsTrue (names_differ pairs) → u < length pairs → position (is_named (pair_name_at pairs u)) pairs ≡ Some u
 place_is pairs u d h =
-    let first : position_or_len (is_named (name_at pairs u)) pairs ≡ u = position_or_len_is (is_named (name_at pairs u)) pairs u no_pair (omega arith) (λ k less. before k less (is_named (name_at pairs u) (get_or pairs k no_pair)) refl) (λ inside. same_bytes (get_or pairs u no_pair).name (name_at pairs u) (sym (name_is pairs u h))) in
+    let first : position_or_len (is_named (pair_name_at pairs u)) pairs ≡ u = position_or_len_is (is_named (pair_name_at pairs u)) pairs u no_pair (omega arith) (λ k less. before k less (is_named (pair_name_at pairs u) (get_or pairs k no_pair)) refl) (λ inside. same_bytes (get_or pairs u no_pair).name (pair_name_at pairs u) (sym (name_is pairs u h))) in
     let inside : nat_lt u (length pairs) ≡ true = grind (arith, nat_tests) in
     rw (first, inside) refl
   where
-    before : (k : ℕ) → k < u → (b : Bool) → is_named (name_at pairs u) (get_or pairs k no_pair) ≡ b → b ≡ false
+    before : (k : ℕ) → k < u → (b : Bool) → is_named (pair_name_at pairs u) (get_or pairs k no_pair) ≡ b → b ≡ false
     before k less false e = refl
     before k less true e =
         let in_k : k < length pairs = omega arith in
-        let same = name_place pairs k u d in_k h (name_is pairs k in_k ∙ named_true (name_at pairs u) (get_or pairs k no_pair) e) in
+        let same = name_place pairs k u d in_k h (name_is pairs k in_k ∙ named_true (pair_name_at pairs u) (get_or pairs k no_pair) e) in
         absurd (omega arith)
 
 -- what is found by a name has it
-pub placed_name : (pairs : List Pair) (name : List ℕ) (u : ℕ) → position (is_named name) pairs ≡ Some u → (u < length pairs) × (name_at pairs u ≡ name)
+pub placed_name : (pairs : List Pair) (name : List ℕ) (u : ℕ) → position (is_named name) pairs ≡ Some u → (u < length pairs) × (pair_name_at pairs u ≡ name)
 placed_name pairs name u e =
     let s = position-Some (is_named name) pairs u no_pair e in
     (s.0, name_is pairs u s.0 ∙ named_true name (get_or pairs u no_pair) s.1)
 
-pub good_name : (pairs : List Pair) (u : ℕ) → Each IsGoodPair pairs → u < length pairs → IsTrue (is_name (name_at pairs u))
+pub good_name : (pairs : List Pair) (u : ℕ) → Each IsGoodPair pairs → u < length pairs → IsTrue (is_name (pair_name_at pairs u))
 good_name pairs u all h =
     let p = each_at IsGoodPair pairs u (get_or pairs u no_pair) all (slice_get-get_or pairs u no_pair h) in
     subst (λ (n : List ℕ). IsTrue (is_name n)) (sym (name_is pairs u h)) p.name
@@ -89,7 +89,7 @@ good_name pairs u all h =
 -- what a line that was read says of an entry record with that line
 pub entry_read : (pairs : List Pair) (bytes name rest more : List ℕ) (word : ℕ) (s : Sent) → IsFirstForm pairs → IsTrue (is_name name) → word < 2 ^ 32 → bytes ≡ entry_line name word ++ rest → IsFormEntry pairs s → bytes ≡ line_of pairs s ++ more → (position (is_named name) pairs ≡ Some s.unit) × (word ≡ slice_index s.words 0) × (rest ≡ more)
 entry_read pairs bytes name rest more word s form is few p good e =
-    let h = line_once name (name_at pairs s.unit) rest more word (slice_index s.words 0) is (good_name pairs s.unit form.each good.unit) few good.word (sym p ∙ e) in
+    let h = line_once name (pair_name_at pairs s.unit) rest more word (slice_index s.words 0) is (good_name pairs s.unit form.each good.unit) few good.word (sym p ∙ e) in
     (subst (λ (n : List ℕ). position (is_named n) pairs ≡ Some s.unit) (sym h.0) (place_is pairs s.unit form.differ good.unit), h.1, h.2)
 
 -- what reads an entry record has found it
@@ -108,7 +108,7 @@ one_word s w e = ap (λ (l : List ℕ). let t : Sent = record { unit = s.unit; w
 -- a text begins with one entry record
 pub entry_once : (pairs : List Pair) (s t : Sent) (a b : List ℕ) → IsFirstForm pairs → IsFormEntry pairs s → IsFormEntry pairs t → line_of pairs s ++ a ≡ line_of pairs t ++ b → (s ≡ t) × (a ≡ b)
 entry_once pairs s t a b form g h e =
-    let k = line_once (name_at pairs s.unit) (name_at pairs t.unit) a b (slice_index s.words 0) (slice_index t.words 0) (good_name pairs s.unit form.each g.unit) (good_name pairs t.unit form.each h.unit) g.word h.word e in
+    let k = line_once (pair_name_at pairs s.unit) (pair_name_at pairs t.unit) a b (slice_index s.words 0) (slice_index t.words 0) (good_name pairs s.unit form.each g.unit) (good_name pairs t.unit form.each h.unit) g.word h.word e in
     let unit = name_place pairs s.unit t.unit form.differ g.unit h.unit k.0 in
     (one_word s (slice_index s.words 0) g.one ∙ (sent_equal s.unit t.unit (slice_index s.words 0) (slice_index t.words 0) unit k.1 ∙ sym (one_word t (slice_index t.words 0) h.one)), k.2)
 

@@ -10,7 +10,7 @@ use Rattle.wg_tool.specs.declared.answer.Answer.TheVariants.{Done, Refused, Usag
 use Rattle.wg_tool.specs.declared.answer.Input.{Input}
 use Rattle.wg_tool.specs.declared.answer.Input.TheVariants as input
 use Rattle.wg_tool.specs.declared.answer.TheConstants.{REFUSED, BAD_SCRIPT, USAGE}
-use Rattle.wg_tool.specs.declared.limits.TheConstants.{FILE_BYTES}
+use Rattle.wg_words.specs.declared.limits.TheConstants.{MOST_FILE_BYTES}
 use Rattle.wg_tool.specs.Answers.{status_of, Concludes}
 use Rattle.wg_tool.specs.FirstForm.{graph_text, IsFirstForm, IsNoGraph}
 use Rattle.wg_tool.specs.Report.{IsReportOfRun}
@@ -90,9 +90,9 @@ pub record SaysReadFault (old new : FilesView) (input : Input) (graph script tex
 -- a file passes its limit: more bytes than it were taken in this call, and where they are told there are more
 pub record SaysTooLong (old new : FilesView) (input : Input) (graph script text : List ℕ) : Type 0 where
   pub reached : ComesToRead old input graph
-  pub rose : RoseBeyond FILE_BYTES (old.taken (name_of_input input graph script)) (new.taken (name_of_input input graph script))
-  pub longer : IfSome (old.told (name_of_input input graph script)) (λ (bytes : List ℕ). FILE_BYTES < length bytes)
-  pub line : text ≡ too_long_line (name_of_input input graph script) FILE_BYTES
+  pub rose : RoseBeyond MOST_FILE_BYTES (old.taken (name_of_input input graph script)) (new.taken (name_of_input input graph script))
+  pub longer : IfSome (old.told (name_of_input input graph script)) (λ (bytes : List ℕ). MOST_FILE_BYTES < length bytes)
+  pub line : text ≡ too_long_line (name_of_input input graph script) MOST_FILE_BYTES
 
 -- what is said of the bytes of two names
 abbrev pub OfBoth : FilesView → List ℕ → List ℕ → (List ℕ → List ℕ → Type 0) → Type 0
@@ -129,8 +129,8 @@ pub record IsFineRun (words : List (List ℕ)) (old new : FilesView) (before now
   pub is_script : IsFormScript pairs entries
   pub graph_told : old.told graph ≡ Some (graph_text pairs)
   pub script_told : old.told script ≡ Some (script_text pairs entries)
-  pub graph_fits : length (graph_text pairs) ≤ FILE_BYTES
-  pub script_fits : length (script_text pairs entries) ≤ FILE_BYTES
+  pub graph_fits : length (graph_text pairs) ≤ MOST_FILE_BYTES
+  pub script_fits : length (script_text pairs entries) ≤ MOST_FILE_BYTES
   pub graph_read : Rose (old.faults graph) (new.faults graph) → ⊥
   pub script_read : Rose (old.faults script) (new.faults script) → ⊥
   pub all_written : Rose before.faults now.faults → ⊥

@@ -12,7 +12,7 @@ use Rattle.wg_machine.specs.Step.{Passed}
 use Rattle.wg_core.specs.declared.report.Report.{Report}
 use Rattle.wg_machine.specs.declared.journal.Done.{Done}
 use Rattle.wg_journal.specs.Texts.{launch_lines, done_line}
-use Rattle.wg_tool.specs.declared.limits.TheConstants.{TURNS}
+use Rattle.wg_words.specs.declared.limits.TheConstants.{DEFAULT_TURNS}
 
 -- the numbers of a complete run's last line, in a graph's plan for one launch out at a time
 abbrev pub done_of : Shape → List Sent → List Entry → List Passed → State → Done
@@ -39,7 +39,7 @@ pub record IsReportOfRun (shape : Shape) (made : Meaning) (script : List Sent) (
   pub journal : List Entry
   pub trail : List Passed
   pub final : State
-  pub run : IsRun shape made TURNS (start shape script []) journal trail final
+  pub run : IsRun shape made DEFAULT_TURNS (start shape script []) journal trail final
   pub complete : IsComplete final
   pub once : EachOnce (all_born shape script trail) journal
   pub within : EachState (λ s. live_bytes shape (length script) s ≤ plan_bytes shape 1) (start shape script []) trail

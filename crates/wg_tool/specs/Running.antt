@@ -6,7 +6,7 @@ use Rattle.wg_machine.specs.LaunchMeaning.{Meaning}
 use Rattle.wg_standing.specs.declared.pending.Pending.{Pending}
 use Rattle.wg_standing.specs.Core.{CoreView}
 use Rattle.wg_standing.specs.Standing.{StandsFor}
-use Rattle.wg_tool.specs.declared.limits.TheConstants.{LAUNCHES}
+use Rattle.wg_words.specs.declared.limits.TheConstants.{DEFAULT_LAUNCHES}
 use Rattle.wg_tool.specs.declared.pair.Pair.{Pair}
 use Rattle.wg_tool.specs.FirstForm.{IsFirstForm}
 use Rattle.wg_tool.specs.Script.{IsFormScript}
@@ -37,7 +37,7 @@ pub record RanOne (old new : CoreView) : Type 0 where
 
 -- a core of the shape that stands for the script has fewer launches than a run may make
 abbrev pub IsShort : Shape → Meaning → List Sent → Type 0
-IsShort shape made script = (core : CoreView) → core.shape ≡ shape → StandsFor made script [] core → length core.journal < LAUNCHES
+IsShort shape made script = (core : CoreView) → core.shape ≡ shape → StandsFor made script [] core → length core.journal < DEFAULT_LAUNCHES
 
 -- the core stands for a script of which no run is longer than a run may be
 pub record StandsShort (made : Meaning) (core : CoreView) : Type 0 where

@@ -12,12 +12,12 @@ use Rattle.wg_tool.specs.Wiring.{targets_of, is_free}
 abbrev pub entry_line : List ℕ → ℕ → List ℕ
 entry_line name word = ENTRY.now ++ (name ++ (BLANK.now ++ (decimal word ++ LINE_END.now)))
 
-abbrev pub name_at : List Pair → ℕ → List ℕ
-name_at pairs u = unwrap_or (option_map (λ (p : Pair). p.name) (slice_get pairs u)) []
+abbrev pub pair_name_at : List Pair → ℕ → List ℕ
+pair_name_at pairs u = unwrap_or (option_map (λ (p : Pair). p.name) (slice_get pairs u)) []
 
 -- the line of an entry record
 abbrev pub line_of : List Pair → Sent → List ℕ
-line_of pairs s = entry_line (name_at pairs s.unit) (slice_index s.words 0)
+line_of pairs s = entry_line (pair_name_at pairs s.unit) (slice_index s.words 0)
 
 abbrev pub entry_lines : List Pair → List Sent → List ℕ
 entry_lines pairs [] = []

@@ -1,5 +1,5 @@
 -- What wires a shape to the targets of its units, and that launches then keep to the laws of launches.
-use Rattle.std.specs.Prelude.{◌≡◌, ℕ, zero, suc, ◌+◌, ◌%◌, ◌^◌, ◌<◌, ◌≤◌, ◌==◌, false, List, [], ◌∷◌, length, Option, Some, None, IfSome, slice_get, slice_index, unwrap_or, count_by, refl}
+use Rattle.std.specs.Prelude.{◌≡◌, ℕ, zero, suc, ◌+◌, ◌%◌, ◌^◌, ◌<◌, ◌≤◌, ◌==◌, Bool, true, false, List, [], ◌∷◌, length, Option, Some, None, IfSome, slice_get, slice_index, unwrap_or, count_by, refl}
 use Rattle.std.specs.Option.{option_map}
 use Rattle.std.proofs.Common.{ap, sym, ◌∙◌, arith}
 use Rattle.std.proofs.lemmas.Bool.Decides.{nat_tests}
@@ -8,8 +8,8 @@ use Rattle.wg_machine.specs.declared.shape.Output.{Output}
 use Rattle.wg_machine.specs.declared.shape.Shape.{Shape}
 use Rattle.wg_machine.specs.declared.shape.Unit.{Unit}
 use Rattle.wg_machine.specs.Buffers.{Buffers}
-use Rattle.wg_machine.specs.LaunchMeaning.{KeepsLaws, KeepsBudgets}
-use Rattle.wg_machine.specs.Units.{words_at}
+use Rattle.wg_machine.specs.LaunchMeaning.{HasNewWords, KeepsLaws, KeepsBudgets}
+use Rattle.wg_machine.specs.Units.{shared_at, words_at}
 use Rattle.wg_tool.specs.Sending.{word_of_launch, target_at, one_sent, sender}
 use Rattle.wg_tool.specs.Wiring.{budgets_of, outputs_of}
 
@@ -26,9 +26,10 @@ pub record SendsTo (shape : Shape) (u t : ℕ) : Type 0 where
   pub outputs : outputs_at shape u ≡ outputs_of (Some t)
   pub budgets : budgets_at shape u ≡ budgets_of (Some t)
 
--- each unit with a target sends there
-abbrev pub IsWired : Shape → List (Option ℕ) → Type 0
-IsWired shape targets = (u t : ℕ) → target_at targets u ≡ Some t → SendsTo shape u t
+-- each unit with a target sends there, and none shares its record
+pub record IsWired (shape : Shape) (targets : List (Option ℕ)) : Type 0 where
+  pub sends : (u t : ℕ) → target_at targets u ≡ Some t → SendsTo shape u t
+  pub none_shared : (u : ℕ) → shared_at shape u ≡ false
 
 one_through : (b : ℕ) → count_by (λ c. c == b) (0 ∷ []) ≤ slice_index (1 ∷ []) b
 one_through zero = omega arith
@@ -46,17 +47,29 @@ keeps_one u t w outputs budgets =
 keeps_none : (u : Unit) → KeepsBudgets u []
 keeps_none u = record { through = []; each_goes = tt; few = λ b. omega arith }
 
-keeps : (shape : Shape) (targets : List (Option ℕ)) (launch : Launch) (buffers : Buffers) (turns w : ℕ) (o : Option ℕ) → IsWired shape targets → target_at targets launch.unit ≡ o → KeepsLaws shape launch buffers turns (record { sent = one_sent o w; denied = 0; turns = 0; buffers = buffers })
+no_new_words : (b : Bool) (n : ℕ) → b ≡ false → HasNewWords b n None
+no_new_words true n e = absurd (cc)
+no_new_words false n e = tt
+
+keeps : (shape : Shape) (targets : List (Option ℕ)) (launch : Launch) (buffers : Buffers) (turns w : ℕ) (o : Option ℕ) → IsWired shape targets → target_at targets launch.unit ≡ o → KeepsLaws shape launch buffers turns (record { sent = one_sent o w; denied = 0; turns = 0; buffers = buffers; shared = None })
 keeps shape targets launch buffers turns w None wired e =
-    record { turns_few = omega arith; denied_few = omega arith; lengths = refl; arrive = tt; budgets = λ u at. keeps_none u }
+    record {
+      turns_few = omega arith;
+      denied_few = omega arith;
+      lengths = refl;
+      arrive = tt;
+      budgets = λ u at. keeps_none u;
+      shared = no_new_words (shared_at shape launch.unit) (words_at shape launch.unit) (wired.none_shared launch.unit);
+    }
 keeps shape targets launch buffers turns w (Some t) wired e =
-    let sends = wired launch.unit t e in
+    let sends = wired.sends launch.unit t e in
     record {
       turns_few = omega arith;
       denied_few = omega arith;
       lengths = refl;
       arrive = (record { unit = sends.within; words = sym sends.words }, tt);
       budgets = λ u at. keeps_one u t w (sym (ap (λ (n : Option Unit). unwrap_or (option_map (λ (x : Unit). x.outputs) n) []) at) ∙ sends.outputs) (sym (ap (λ (n : Option Unit). unwrap_or (option_map (λ (x : Unit). x.budgets) n) []) at) ∙ sends.budgets);
+      shared = no_new_words (shared_at shape launch.unit) (words_at shape launch.unit) (wired.none_shared launch.unit);
     }
 
 pub sender_lawful : (shape : Shape) (targets : List (Option ℕ)) (adds : List ℕ) (launch : Launch) (buffers : Buffers) (turns : ℕ) → IsWired shape targets → IfSome (sender targets adds launch buffers turns) (KeepsLaws shape launch buffers turns)

@@ -25,9 +25,9 @@ one_sent (Some t) word = record { unit = t; words = word ∷ [] } ∷ []
 abbrev pub sent_of : List (Option ℕ) → List ℕ → Launch → List Sent
 sent_of targets adds launch = one_sent (target_at targets launch.unit) ((word_of_launch launch + slice_index adds launch.unit) % 2 ^ 32)
 
--- No request is denied, no turn is made, and the buffers stay.
+-- No request is denied, no turn is made, the buffers stay, and no record is shared.
 abbrev pub sender : List (Option ℕ) → List ℕ → Meaning
-sender targets adds launch buffers turns = Some (record { sent = sent_of targets adds launch; denied = 0; turns = 0; buffers = buffers })
+sender targets adds launch buffers turns = Some (record { sent = sent_of targets adds launch; denied = 0; turns = 0; buffers = buffers; shared = None })
 
 abbrev pub add_of : Option Sends → ℕ
 add_of None = 0

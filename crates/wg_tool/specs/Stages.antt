@@ -11,7 +11,7 @@ use Rattle.wg_tool.specs.declared.answer.Answer.TheVariants.{Done, Refused, Usag
 use Rattle.wg_tool.specs.declared.answer.Input.{Input}
 use Rattle.wg_tool.specs.declared.answer.Input.TheVariants as input
 use Rattle.wg_tool.specs.declared.answer.TheConstants.{BAD_SCRIPT}
-use Rattle.wg_tool.specs.declared.limits.TheConstants.{FILE_BYTES}
+use Rattle.wg_words.specs.declared.limits.TheConstants.{MOST_FILE_BYTES}
 use Rattle.wg_tool.specs.declared.pair.Pair.{Pair}
 use Rattle.wg_tool.specs.Headline.{FilesView, OfFile, ReportsScript, read_fault_line, too_long_line}
 use Rattle.wg_tool.specs.Report.{IsReportOfRun}
@@ -44,8 +44,8 @@ FileSays old new pairs name Done text = OfFile old name (λ (s : List ℕ). Repo
 FileSays old new pairs name BadScript text = OfFile old name (IsNoScript pairs) × (text ≡ BAD_SCRIPT.now)
 FileSays old new pairs name (ReadFault i) text = (i ≡ input.Script) × Rose (old.faults name) (new.faults name) × (text ≡ read_fault_line name)
 FileSays old new pairs name (TooLong i) text =
-    (i ≡ input.Script) × RoseBeyond FILE_BYTES (old.taken name) (new.taken name)
-    × IfSome (old.told name) (λ (bytes : List ℕ). FILE_BYTES < length bytes) × (text ≡ too_long_line name FILE_BYTES)
+    (i ≡ input.Script) × RoseBeyond MOST_FILE_BYTES (old.taken name) (new.taken name)
+    × IfSome (old.told name) (λ (bytes : List ℕ). MOST_FILE_BYTES < length bytes) × (text ≡ too_long_line name MOST_FILE_BYTES)
 FileSays old new pairs name Refused text = ⊥
 FileSays old new pairs name Usage text = ⊥
 FileSays old new pairs name WriteFault text = ⊥

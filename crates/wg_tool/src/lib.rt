@@ -5,7 +5,6 @@ mod answer;
 mod bodies;
 mod call;
 mod graph;
-mod limits;
 mod pair;
 mod parts;
 mod print;

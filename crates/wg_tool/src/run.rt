@@ -6,7 +6,6 @@ ghost use Rattle.wg_tool.specs.Running.{IsRunnable};
 ghost use Rattle.wg_tool.specs.Sending.{sender};
 
 use crate::bodies::Senders;
-use crate::limits::{LAUNCHES, TURNS};
 use crate::steps::run_all;
 use std::alloc::{AllocError, Global};
 use wg_core::{Core, Report};
@@ -15,6 +14,7 @@ use wg_machine::{
 };
 use wg_standing::idle_is_complete;
 use wg_words::TryCopy;
+use wg_words::limits::{DEFAULT_LAUNCHES, DEFAULT_TURNS};
 
 /// Runs a script to its end.
 pub fn run_script(alloc: Global, senders: &Senders, entries: Entries) -> Result<Report, AllocError>
@@ -28,8 +28,8 @@ pub fn run_script(alloc: Global, senders: &Senders, entries: Entries) -> Result<
     chains_are_short();
     idle_is_complete();
     let limits = Limits {
-        turns: TURNS,
-        launches: LAUNCHES,
+        turns: DEFAULT_TURNS,
+        launches: DEFAULT_LAUNCHES,
     };
     let shape = senders.shape.copy(alloc)?;
     let mut core = Core::new(alloc, shape, entries, limits)?;

@@ -3,7 +3,7 @@ ghost use Rattle.wg_words.specs.Each.{Each};
 ghost use Rattle.wg_machine.specs.declared.launch.Sent.{Sent as SentOf};
 ghost use Rattle.wg_tool.specs.Parts.{is_name};
 ghost use Rattle.wg_tool.specs.FirstForm.{IsFirstForm};
-ghost use Rattle.wg_tool.specs.Script.{entry_line, name_at, line_of, entry_lines, script_text, IsFormEntry, IsFormScript, IsNoScript};
+ghost use Rattle.wg_tool.specs.Script.{entry_line, pair_name_at, line_of, entry_lines, script_text, IsFormEntry, IsFormScript, IsNoScript};
 ghost use Rattle.wg_tool.specs.Wiring.{targets_of};
 
 use crate::pair::Pair;

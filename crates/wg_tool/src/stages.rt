@@ -8,7 +8,6 @@ ghost use Rattle.wg_tool.specs.Stages.{RanSays, ScriptSays, FileSays};
 use crate::answer::{Answer, BAD_SCRIPT, Input, REFUSED};
 use crate::bodies::Senders;
 use crate::graph::read_graph;
-use crate::limits::FILE_BYTES;
 use crate::pair::Pair;
 use crate::print::{PrintFault, print_report};
 use crate::run::run_script;
@@ -20,6 +19,7 @@ use std::alloc::Global;
 use wg_io::{Files, Sink};
 use wg_journal::Done;
 use wg_machine::Entries;
+use wg_words::limits::MOST_FILE_BYTES;
 
 /// Runs entry records through a graph, and prints the report.
 fn run_entries<S: Sink>(alloc: Global, senders: &Senders, entries: Entries, out: &mut S) -> Answer
@@ -75,7 +75,7 @@ fn answer_script<F: Files, S: Sink>(
         (record { told = F.told files.new; faults = F.faults files.new; taken = F.taken files.new }) pairs.now name.now)
         (S.written out.old) (S.written out.new) (S.faults out.old) (S.faults out.new) result }
 {
-    match files.read(alloc, name, FILE_BYTES) {
+    match files.read(alloc, name, MOST_FILE_BYTES) {
         Ok(bytes) => run_bytes(alloc, pairs, bytes.as_slice(), out),
         Err(fault) => say_fault(alloc, fault, Input::Script, name, out),
     }
@@ -94,7 +94,7 @@ pub fn answer_run<F: Files, S: Sink>(
         (record { told = F.told files.new; faults = F.faults files.new; taken = F.taken files.new }) graph.now script.now)
         (S.written out.old) (S.written out.new) (S.faults out.old) (S.faults out.new) result }
 {
-    match files.read(alloc, graph, FILE_BYTES) {
+    match files.read(alloc, graph, MOST_FILE_BYTES) {
         Err(fault) => say_fault(alloc, fault, Input::Graph, graph, out),
         Ok(bytes) => match read_graph(alloc, bytes.as_slice()) {
             Err(_) => Answer::OutOfMemory,

@@ -4,7 +4,7 @@ ghost use Rattle.wg_standing.specs.Standing.{StandsFor};
 ghost use Rattle.wg_standing.specs.Idle.{IsIdle};
 ghost use Rattle.wg_tool.specs.Running.{KeepsPlan, IsBetweenLaunches, IsOnlyOut, RanOne, StandsShort};
 ghost use Rattle.wg_tool.specs.Sending.{sender};
-ghost use Rattle.wg_tool.specs.declared.limits.TheConstants.{LAUNCHES as MOST};
+ghost use Rattle.wg_words.specs.declared.limits.TheConstants.{DEFAULT_LAUNCHES};
 
 use crate::bodies::Senders;
 use std::alloc::AllocError;
@@ -37,7 +37,7 @@ fn settle(senders: &Senders, core: &mut Core, ticket: u64) -> Result<(), AllocEr
 /// Opens the next launch and settles it.
 fn step(senders: &Senders, core: &mut Core) -> Stepped
     requires graph { senders.now.shape ≡ core.old.shape }
-    requires limit { core.old.limits.launches ≡ MOST }
+    requires limit { core.old.limits.launches ≡ DEFAULT_LAUNCHES }
     requires ready { IsBetweenLaunches core.old }
     requires short { StandsShort (sender senders.now.targets senders.now.adds) core.old }
     ensures stands { (script : List SentOf) → StandsFor (sender senders.now.targets senders.now.adds) script [] core.old → StandsFor (sender senders.now.targets senders.now.adds) script [] core.new }
@@ -59,7 +59,7 @@ fn step(senders: &Senders, core: &mut Core) -> Stepped
 /// Opens and settles one launch after another, until nothing is left.
 pub fn run_all(senders: &Senders, core: &mut Core) -> Result<(), AllocError>
     requires graph { senders.now.shape ≡ core.old.shape }
-    requires limit { core.old.limits.launches ≡ MOST }
+    requires limit { core.old.limits.launches ≡ DEFAULT_LAUNCHES }
     requires ready { IsBetweenLaunches core.old }
     requires short { StandsShort (sender senders.now.targets senders.now.adds) core.old }
     ensures stands { (script : List SentOf) → StandsFor (sender senders.now.targets senders.now.adds) script [] core.old → StandsFor (sender senders.now.targets senders.now.adds) script [] core.new }

@@ -1,6 +1,6 @@
 use Rattle.std.proofs.Common.{◌≡◌, Some, true, false, sym, refl, ◌∙◌}
 use Rattle.std.specs.Prelude.{slice_index}
-use Rattle.wg_tool.specs.Script.{name_at}
+use Rattle.wg_tool.specs.Script.{pair_name_at}
 use Rattle.std.proofs.lemmas.Option.{none-some}
 use Rattle.wg_tool.specs.Wiring.{is_free, targets_of}
 use Rattle.wg_tool.proofs.FormLemmas.{true_is_not_false}
@@ -9,7 +9,7 @@ use Rattle.wg_tool.proofs.script.read_entry.Goals as goal
 
 pub returns-in_default-clause-none : goal.returns-in_default-clause-none
 returns-in_default-clause-none c = λ s more good e.
-    (rw c.in_default.is at c.in_ok-name.ensures.none) (name_at c.args.pairs.now s.unit) (slice_index s.words 0) more (good_name c.args.pairs.now s.unit c.requires.form.each good.unit) good.word e
+    (rw c.in_default.is at c.in_ok-name.ensures.none) (pair_name_at c.args.pairs.now s.unit) (slice_index s.words 0) more (good_name c.args.pairs.now s.unit c.requires.form.each good.unit) good.word e
 
 pub returns-in_default-place_of-clause-none : goal.returns-in_default-place_of-clause-none
 returns-in_default-place_of-clause-none c = λ s more good e.

@@ -3,7 +3,7 @@ use Rattle.wg_machine.specs.declared.launch.Sent.{Sent}
 use Rattle.wg_standing.specs.Standing.{StandsFor}
 use Rattle.wg_tool.specs.Running.{KeepsPlan, IsBetweenLaunches, StandsShort}
 use Rattle.wg_tool.specs.Sending.{sender}
-use Rattle.wg_tool.specs.declared.limits.TheConstants.{LAUNCHES}
+use Rattle.wg_words.specs.declared.limits.TheConstants.{DEFAULT_LAUNCHES}
 use Rattle.wg_tool.proofs.steps.run_all.Given as goal
 
 -- the core is ready, and stands for what it stood for
@@ -18,4 +18,4 @@ invariant-loop l =
 
 -- the launches that are left
 abbrev pub decreases-loop : goal.decreases-loop
-decreases-loop l = LAUNCHES - length l.core.journal
+decreases-loop l = DEFAULT_LAUNCHES - length l.core.journal

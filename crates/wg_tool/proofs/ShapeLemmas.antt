@@ -1,6 +1,6 @@
 -- The shape of a graph of the first form is a good one.
 use Rattle.std.proofs.Common.{◌≡◌, ℕ, zero, suc, ◌+◌, ◌<◌, ◌≤◌, Bool, true, false, List, [], ◌∷◌, ◌++◌, length, Option, Some, None, refl, ap, sym, ◌∙◌, subst, arith, append_assoc, drop, get_or}
-use Rattle.std.specs.Prelude.{IsTrue, ⊤, ◌&&◌, ◌||◌, ◌==◌, nat_lt, map, filter, slice_get}
+use Rattle.std.specs.Prelude.{IsTrue, ⊤, ◌||◌, ◌==◌, nat_lt, map, filter, slice_get}
 use Rattle.std.proofs.lemmas.Bool.Decides.{nat_tests}
 use Rattle.std.proofs.lemmas.List.{append-nil, at_drop_more}
 use Rattle.std.proofs.lemmas.List.Elements.{filter-append}

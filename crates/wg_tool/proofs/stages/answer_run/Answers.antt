@@ -5,7 +5,6 @@ use Rattle.wg_tool.specs.declared.answer.Answer.TheVariants.{Refused}
 use Rattle.wg_tool.specs.declared.answer.Input.TheVariants as input
 use Rattle.wg_tool.specs.declared.answer.TheConstants.{REFUSED}
 use Rattle.wg_tool.specs.declared.pair.Pair.{Pair}
-use Rattle.wg_tool.specs.FirstForm.{IsNoGraph}
 use Rattle.wg_tool.specs.Headline.{FilesView, RunSays, IsGraph}
 use Rattle.wg_tool.specs.Stages.{FileSays, FaultSays}
 use Rattle.wg_tool.proofs.AnswerLemmas.{told, lifted}

@@ -2,7 +2,7 @@
 use Rattle.std.specs.Prelude.{ℕ, suc, ◌≤◌}
 
 pub record Depth : Type 0 where
-  -- the blocks and the bodies of `if`, `else`, `while` and `for` that hold it; a block that is such a body counts once
+  -- how many blocks and bodies of `if`, `else`, `while` and `for` stand around it, where a body in braces is one and not two
   pub statement : ℕ
   -- the pairs of brackets inside expressions that hold it, and the prefix operators, casts and `?` whose operand to the right holds it
   pub expression : ℕ

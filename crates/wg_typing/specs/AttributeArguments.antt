@@ -53,8 +53,8 @@ abbrev pub one_if_none : Option ℕ → ℕ
 one_if_none (Some n) = n
 one_if_none None = 1
 
--- The lanes of a node for the rules on collective statements: the product of its first `NumThreads`, and one where that is missing or
--- is not three numbers from 1 on with a product of at most 1,024. Own.
+-- The lanes of a node for the rules on collective statements: its first `NumThreads` multiplied. A node without one, or whose one breaks
+-- the rules of that attribute, counts as one lane. Own.
 abbrev pub lanes_of : List TypedAttribute → ℕ
 lanes_of attributes = one_if_none (first_called "NumThreads" attributes >>= (λ a. product a.arguments))
 

@@ -1,4 +1,4 @@
--- LimitPassed: a limit on sizes, buffers, outputs or calls, or an array size below 1; the declaring or called name. Own.
+-- LimitPassed: more words, buffers, outputs or nested calls than the limits allow, or an array of no elements. The place is the name that declares or calls. Own.
 use Rattle.std.specs.Prelude.{ℕ, ◌+◌, not, nat_lt, List, [], ◌∷◌, ◌++◌, Option, Some, None}
 use Rattle.wg_words.specs.declared.place.Place.{Place}
 use Rattle.wg_typing.specs.TypingCallee.{CalledName, plain, entry, itself, builtin, broken, unknown, callee}

@@ -1,4 +1,4 @@
--- NotAssignable: a target that is no place, is constant or is read-only; its first token. Own.
+-- NotAssignable: what is assigned to is a mere value, a constant, or can only be read. The place is that of the target's first token. Own.
 use Rattle.std.specs.Prelude.{Bool, not, List, [], ◌∷◌, ◌++◌, Option, Some, None, if◌then◌else◌}
 use Rattle.wg_words.specs.declared.place.Place.{Place}
 use Rattle.wg_typing.specs.Scope.{Context}

@@ -5,24 +5,24 @@ use Rattle.std.proofs.lemmas.Bool.Decides.{nat_tests}
 use Rattle.wg_words.specs.Each.{Each}
 use Rattle.wg_machine.specs.declared.launch.Live.{Live}
 use Rattle.wg_standing.specs.declared.pending.Pending.{Pending}
-use Rattle.wg_core.specs.declared.report.End.{End}
-use Rattle.wg_core.specs.declared.report.End.TheVariants as ended
+use Rattle.wg_machine.specs.declared.journal.Stop.{Stop}
+use Rattle.wg_machine.specs.declared.journal.Tail.{Tail}
 use Rattle.wg_core.specs.declared.store.Place.{Place}
 use Rattle.wg_core.specs.declared.store.Place.TheVariants.{Waiting, Entry}
 use Rattle.wg_standing.specs.Core.{CoreView}
-use Rattle.wg_core.specs.Ending.{EndIs}
+use Rattle.wg_core.specs.Ending.{EndIs, end_complete, end_launches, end_open, end_turns, tail_of}
 use Rattle.wg_core.specs.Inside.{IsSoundCore}
 use Rattle.wg_standing.specs.Standing.{IsNotOut, by_unit, in_slot}
 use Rattle.wg_core.specs.Store.{Chooses, IsBare, StoreView, StoreHasRoom, record_at}
 use Rattle.wg_standing.specs.Choice.{first_unit}
-use Rattle.wg_core.specs.Tables.{EndsAs}
-use Rattle.wg_standing.specs.Idle.{IsIdle, SomeIsOut}
+use Rattle.wg_core.specs.Tables.{EndsAs, by_launches, by_turns, completely, done_of, openly}
+use Rattle.wg_standing.specs.Idle.{IsIdle, IsOut, SomeIsOut}
 use Rattle.wg_core.proofs.Lists.{by_unit_at}
 use Rattle.wg_standing.specs.Laws.{UnopenedIsWhole}
 use Rattle.wg_core.proofs.Bounds.{at_each}
 use Rattle.wg_core.proofs.Openings.{Rest, lists_of, seen}
 use Rattle.wg_core.proofs.Settlings.{names_parted, parted}
-use Rattle.wg_core.proofs.Bags.{length_names, none_shared, ready_is_now}
+use Rattle.wg_core.proofs.Bags.{length_names}
 use Rattle.wg_core.specs.Running.{IsNotRunning, all_names, names_of}
 use Rattle.wg_core.specs.declared.running.Running.{Running}
 
@@ -101,16 +101,25 @@ pub stopped_out : (core : CoreView) (runs : List Running) (stopped : Option ℕ)
 stopped_out core runs None e s = tt
 stopped_out core runs (Some ticket) e s = λ n. some_out core ticket s (subst (IsNotOut ticket) (sym e) (running_not ticket runs n))
 
-pub ends : UnopenedIsWhole → (k : StoreView) (r : Rest) (places : ℕ) (end : End) → IsSoundCore k (seen k r) r.runs places → EndIs k r.runs r.stopped (length r.journal) r.limits end → EndsAs (seen k r) end
-ends law k r places (ended.Turns launch) s e =
-    let l = e.2 in
-    let now = ready_is_now k.shape 0 r.next r.runs (k.entries ++ k.waiting) l.place l.pending (none_shared k.shape s.good s.threads) s.placed.rises s.running l.there in
-    (e.0, e.1, (all_names (take l.place r.runs), names_of l.pending, all_names (drop (suc l.place) r.runs), record { place = names_parted r.runs (take l.place r.runs) l.pending (drop (suc l.place) r.runs) (parted r.runs l.place l.pending l.there); named = l.named }, l.launch_is ∙ sym now))
-ends law k r places ended.Complete s e = (e.0, idle_of k r e.1 e.2)
-ends law k r places ended.Launches s e =
-    let z = ap (λ (os : List Running). length os) e.2 in
+pub ends : UnopenedIsWhole → (k : StoreView) (r : Rest) (places : ℕ) (tail : Tail) → IsSoundCore k (seen k r) r.runs places → EndIs k r.runs r.stopped (done_of (seen k r)) r.limits tail → EndsAs (seen k r) tail
+ends law k r places _ s (end_turns ticket stop e l) =
+    let place : IsOut (seen k r) ticket (all_names (take l.place r.runs)) (names_of l.pending) (all_names (drop (suc l.place) r.runs)) = record { place = names_parted r.runs (take l.place r.runs) l.pending (drop (suc l.place) r.runs) (parted r.runs l.place l.pending l.there); named = l.named } in
+    subst (λ (x : Stop). EndsAs (seen k r) (tail_of None (Some x))) (sym l.stop_is) (by_turns ticket (all_names (take l.place r.runs)) (names_of l.pending) (all_names (drop (suc l.place) r.runs)) e place)
+ends law k r places _ s (end_complete e none bare) = completely e (idle_of k r none bare)
+ends law k r places _ s (end_launches e busy none all) =
+    let z = ap (λ (os : List Running). length os) none in
     let many = length_names r.runs in
-    (e.0, λ idle. e.1 (no_runs r.runs idle.outs, bare_of_idle law k r places s idle), ap all_names e.2, (let j = e.3 in omega (arith, z, j, many)))
-ends law k r places ended.Open s e =
+    by_launches (e, λ idle. busy (no_runs r.runs idle.outs, bare_of_idle law k r places s idle), ap all_names none, omega (arith, z, all, many))
+ends law k r places _ s (end_open e busy left) =
     let many = length_names r.runs in
-    (e.0, λ idle. e.1 (no_runs r.runs idle.outs, bare_of_idle law k r places s idle), λ spent. e.2 (no_runs r.runs spent.2, (let z = ap (λ (os : List Pending). length os) spent.2 in let u = spent.3 in omega (arith, z, u))))
+    openly e (λ idle. busy (no_runs r.runs idle.outs, bare_of_idle law k r places s idle)) (λ spent. left (no_runs r.runs spent.2, (let z = ap (λ (os : List Pending). length os) spent.2 in let u = spent.3 in omega (arith, z, u))))
+
+none_some : {X : Type 0} → (x : X) → None ≡ Some x → ⊥
+none_some x e = cc
+
+-- a core with nothing left ends with its done line
+pub ends_complete : (core : CoreView) (tail : Tail) → core.stopped ≡ None → IsIdle core → EndsAs core tail → tail ≡ tail_of (Some (done_of core)) None
+ends_complete core _ free idle (by_turns ticket before o later e out) = absurd (none_some ticket (sym free ∙ e))
+ends_complete core _ free idle (completely e i) = refl
+ends_complete core _ free idle (by_launches spent) = absurd (spent.1 idle)
+ends_complete core _ free idle (openly e busy left) = absurd (busy idle)

@@ -5,8 +5,12 @@ use Rattle.wg_core.specs.declared.engine.Opened.{Opened}
 use Rattle.wg_core.specs.declared.engine.Opened.TheVariants as opened
 use Rattle.wg_core.specs.declared.engine.Settled.{Settled}
 use Rattle.wg_core.specs.declared.engine.Settled.TheVariants as settled
-use Rattle.wg_core.specs.declared.report.End.{End}
-use Rattle.wg_core.specs.declared.report.End.TheVariants as ended
+use Rattle.wg_machine.specs.declared.journal.Done.{Done}
+use Rattle.wg_machine.specs.declared.journal.Stop.{Stop}
+use Rattle.wg_machine.specs.declared.journal.Stop.TheVariants.{Turns, Launches}
+use Rattle.wg_machine.specs.declared.journal.Tail.{Tail}
+use Rattle.wg_machine.specs.Bytes.{plan_bytes}
+use Rattle.wg_core.specs.Ending.{tail_of}
 use Rattle.wg_standing.specs.declared.pending.Pending.{Pending}
 use Rattle.wg_standing.specs.Choice.{IsChoice, NoChoice}
 use Rattle.wg_standing.specs.Core.{CoreView}
@@ -43,11 +47,17 @@ Settles made old new ticket settled.NotOut = (old.stopped ≡ None) × IsNotOut 
 Settles made old new ticket settled.Stopped = (old.stopped ≢ None) × (new ≡ old)
 Settles made old new ticket settled.Memory = (old.stopped ≡ None) × SomeIsOut old ticket × (new ≡ old)
 
--- how a core ended: stopped by a launch that was spent, with an empty bag, with the launches spent, or else
-abbrev pub EndsAs : CoreView → End → Type 0
-EndsAs core (ended.Turns launch) =
-    (ticket : ℕ) × (core.stopped ≡ Some ticket)
-    × ((before : List Pending) × (o : Pending) × (later : List Pending) × IsOut core ticket before o later × (launch ≡ launch_now core.shape core.bag o))
-EndsAs core ended.Complete = (core.stopped ≡ None) × IsIdle core
-EndsAs core ended.Launches = IsLaunchesSpent core
-EndsAs core ended.Open = (core.stopped ≡ None) × (IsIdle core → ⊥) × (IsLaunchesSpent core → ⊥)
+-- the done line of a core
+abbrev pub done_of : CoreView → Done
+done_of core = record { launches = length core.journal; records = core.next; denied = core.denied; peak = core.peak; bytes = plan_bytes core.shape core.width }
+
+-- the stop by a launch out
+abbrev pub stop_of : CoreView → Pending → Stop
+stop_of core o = Turns core.limits.turns o.unit o.at o.inputs
+
+-- how a core ended, as its report tells it: by a launch that was spent, with an empty bag, with the launches spent, or else
+pub data EndsAs (core : CoreView) : Tail → Type 0 where
+  by_turns : (ticket : ℕ) (before : List Pending) (o : Pending) (later : List Pending) → core.stopped ≡ Some ticket → IsOut core ticket before o later → EndsAs core (tail_of None (Some (stop_of core o)))
+  completely : core.stopped ≡ None → IsIdle core → EndsAs core (tail_of (Some (done_of core)) None)
+  by_launches : IsLaunchesSpent core → EndsAs core (tail_of None (Some (Launches core.limits.launches)))
+  openly : core.stopped ≡ None → (IsIdle core → ⊥) → (IsLaunchesSpent core → ⊥) → EndsAs core (tail_of None None)

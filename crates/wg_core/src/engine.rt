@@ -6,23 +6,21 @@ ghost use Rattle.wg_machine.specs.declared.shape.Kind.TheVariants.{Thread};
 ghost use Rattle.wg_machine.specs.declared.launch.Entry.{Entry as Line};
 ghost use Rattle.wg_machine.specs.declared.launch.Sent.{Sent as SentOf};
 ghost use Rattle.wg_machine.specs.Buffers.{Buffers};
-ghost use Rattle.wg_machine.specs.Bytes.{plan_bytes};
 ghost use Rattle.wg_machine.specs.GoodShape.{IsGoodShape};
 ghost use Rattle.wg_machine.specs.LaunchMeaning.{Arrives, Meaning};
 ghost use Rattle.wg_core.specs.Running.{IsNotRunning};
-ghost use Rattle.wg_core.specs.Ending.{EndIs, IsLaunchOut};
+ghost use Rattle.wg_core.specs.Ending.{EndIs, IsStopOf, stop_by, tail_of};
 ghost use Rattle.wg_core.specs.Inside.{IsAt};
 ghost use Rattle.wg_core.specs.Store.{IsBare};
 
-use crate::report::{End, Report};
 use crate::run::run;
 use crate::running::Running;
 use crate::store::{Store, launch_of};
 use std::alloc::{AllocError, Global};
 use std::marker::Model;
 use wg_machine::{
-    Bodies, Entries, Entry, EntryList, Halt, Launch, Limits, Made, SentList, Shape, few_are_sent,
-    needs_are_kept,
+    Bodies, BufferLines, Done, Entries, Entry, EntryList, Halt, Journal, Launch, Limits, Made,
+    SentList, Shape, Stop, Tail, few_are_sent, needs_are_kept,
 };
 use wg_standing::{
     beginnings_place, beginnings_stand, launches_leave_each_list, never_blocked, openings_leave,
@@ -99,7 +97,8 @@ impl Model for Core {
 impl Core {
     ghost use Rattle.wg_standing.specs.Core.{core_begun};
     ghost use Rattle.wg_standing.specs.Standing.{StandsFor};
-    ghost use Rattle.wg_core.specs.Tables.{Opens, Settles, EndsAs};
+    ghost use Rattle.wg_standing.specs.Idle.{IsIdle};
+    ghost use Rattle.wg_core.specs.Tables.{Opens, Settles, EndsAs, done_of};
 
     /// A core at the start of a script, with room for one launch out at a time. The graph has thread nodes alone, and
     /// no buffers.
@@ -270,21 +269,17 @@ impl Core {
         }
     }
 
-    /// What the run came to. It takes no memory.
-    pub fn finish(self) -> Report
+    /// What the run came to, as its report tells it. It takes no memory.
+    pub fn finish(self) -> Journal
         ensures entries { result.entries ≡ self.journal }
-        ensures records { result.records ≡ self.next }
-        ensures denied { result.denied ≡ self.denied }
-        ensures peak { result.peak ≡ self.peak }
-        ensures bytes { result.bytes ≡ plan_bytes self.shape self.width }
-        ensures end { EndsAs self result.end }
-        ensures limits { result.limits ≡ self.limits }
-        ensures outs { Each (λ (e : Line). e.first_out + e.outs ≤ result.records) result.entries }
-        ensures records_fit { result.records < 2 ^ 64 }
+        ensures tail { EndsAs self result.tail }
+        ensures complete { self.stopped ≡ None → IsIdle self → result.tail ≡ tail_of (Some (done_of self)) None }
+        ensures outs { Each (λ (e : Line). e.first_out + e.outs ≤ self.next) result.entries }
+        ensures records_fit { self.next < 2 ^ 64 }
     {
         unopened_is_whole();
         let Core {
-            alloc: _,
+            alloc,
             limits,
             store,
             next,
@@ -295,16 +290,17 @@ impl Core {
             peak,
             stopped,
         } = self;
-        let bytes = store.planned();
-        let end = end_of(&store, outs, stopped, journal.len() as u64, &limits);
-        Report {
-            entries: EntryList::from_vec(journal),
+        let done = Done {
+            launches: journal.len() as u64,
             records: next,
             denied,
             peak,
-            bytes,
-            end,
-            limits,
+            bytes: store.planned(),
+        };
+        let tail = end_of(alloc, &store, outs, stopped, done, &limits);
+        Journal {
+            entries: EntryList::from_vec(journal),
+            tail,
         }
     }
 }
@@ -318,48 +314,66 @@ fn is_idle(store: &Store, outs: &[Running]) -> bool
 
 // How a run ended.
 fn end_of(
+    alloc: Global,
     store: &Store,
     outs: Vec<Running>,
     stopped: Option<u64>,
-    journal: u64,
+    done: Done,
     limits: &Limits,
-) -> End
+) -> Tail
     requires { IfSome stopped (λ ticket. IsNotRunning ticket outs.items → ⊥) }
-    ensures { EndIs store.now outs.items stopped journal limits.now result }
+    ensures { EndIs store.now outs.items stopped done limits.now result }
 {
     if let Some(ticket) = stopped {
-        return End::Turns(launch_out(outs, ticket));
+        return tail(alloc, None, Some(stop_of(outs, ticket, limits.turns)));
     }
     if is_idle(store, outs.as_slice()) {
-        return End::Complete;
+        return tail(alloc, Some(done), None);
     }
-    if outs.is_empty() && journal == limits.launches {
-        return End::Launches;
+    if outs.is_empty() && done.launches == limits.launches {
+        let launches = limits.launches;
+        return tail(alloc, None, Some(Stop::Launches { launches }));
     }
-    End::Open
+    tail(alloc, None, None)
 }
 
-// The launch with a ticket.
-fn launch_out(mut outs: Vec<Running>, ticket: u64) -> Launch
+// The tail of a report of a graph without buffers.
+fn tail(alloc: Global, done: Option<Done>, stop: Option<Stop>) -> Tail
+    ensures { result ≡ tail_of done stop }
+{
+    Tail {
+        done,
+        buffers: BufferLines::from_vec(Vec::new(alloc)),
+        stop,
+    }
+}
+
+// The stop by the launch with a ticket.
+fn stop_of(mut outs: Vec<Running>, ticket: u64, turns: u64) -> Stop
     requires { IsNotRunning ticket outs.items → ⊥ }
-    ensures { IsLaunchOut outs.items ticket result }
+    ensures { IsStopOf outs.items ticket turns result }
 {
     let Some(place) = place_of(outs.as_slice(), ticket) else {
         unreachable!();
     };
-    launch_in(outs.remove(place))
+    stop_at(outs.remove(place), turns)
 }
 
-fn launch_in(pending: Running) -> Launch
-    ensures { result ≡ pending.launch }
+fn stop_at(running: Running, turns: u64) -> Stop
+    ensures { result ≡ stop_by running turns }
 {
     let Running {
         ticket: _,
-        at: _,
+        at,
         launch,
-        inputs: _,
-    } = pending;
-    launch
+        inputs,
+    } = running;
+    Stop::Turns {
+        turns,
+        unit: launch.unit,
+        group: at,
+        inputs,
+    }
 }
 
 // The place of the launch with a ticket.

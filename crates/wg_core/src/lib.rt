@@ -4,10 +4,8 @@
 mod engine;
 mod memory;
 mod needs;
-mod report;
 mod run;
 mod running;
 mod store;
 
 pub use engine::{Core, Opened, Out, Settled};
-pub use report::{End, Report};

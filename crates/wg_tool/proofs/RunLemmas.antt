@@ -8,7 +8,7 @@ use Rattle.wg_standing.specs.declared.pending.Pending.{Pending}
 use Rattle.wg_standing.specs.Core.{CoreView}
 use Rattle.wg_standing.specs.Moves.{TakesStep}
 use Rattle.wg_standing.specs.Outs.{launch_now}
-use Rattle.std.specs.Prelude.{slice_get, slice_index, unwrap_or}
+use Rattle.std.specs.Prelude.{slice_get, slice_index, unwrap_or, IfSome, IsSome}
 use Rattle.std.specs.Option.{option_map}
 use Rattle.std.proofs.Common.{Option, ◌^◌, ◌%◌}
 use Rattle.wg_words.specs.Each.{Each}
@@ -26,12 +26,15 @@ use Rattle.wg_machine.specs.Run.{IsRun, IsComplete, EachOnce, EachState, all_bor
 use Rattle.wg_machine.specs.State.{State, start}
 use Rattle.wg_machine.specs.Step.{Passed}
 use Rattle.wg_machine.specs.Units.{words_at}
-use Rattle.wg_core.specs.declared.report.Report.{Report}
+use Rattle.wg_core.specs.Ending.{tail_of}
+use Rattle.wg_core.specs.Tables.{done_of}
 use Rattle.wg_standing.specs.Standing.{StandsFor}
 use Rattle.wg_standing.specs.Idle.{IsIdle}
 use Rattle.wg_machine.specs.declared.journal.Done.{Done}
+use Rattle.wg_machine.specs.declared.journal.Journal.{Journal}
+use Rattle.wg_machine.specs.declared.journal.Tail.{Tail}
 use Rattle.wg_tool.specs.declared.pair.Pair.{Pair}
-use Rattle.wg_tool.specs.Report.{IsReportOfRun, complete_report, done_in}
+use Rattle.wg_tool.specs.Report.{IsReportOfRun, complete_report}
 use Rattle.wg_tool.specs.Running.{IsOnlyOut, RanOne, IsShort}
 use Rattle.wg_tool.specs.Script.{IsFormScript, IsFormEntry}
 use Rattle.wg_tool.specs.SenderLaws.{IsWired, sender_lawful}
@@ -138,11 +141,15 @@ each_weaker P Q s (p ∷ trail) h e = (h s e.0, each_weaker P Q p.after trail h 
 done_equal : (l r d p b r' d' p' b' : ℕ) → r ≡ r' → d ≡ d' → p ≡ p' → b ≡ b' → let x : Done = record { launches = l; records = r; denied = d; peak = p; bytes = b } in let y : Done = record { launches = l; records = r'; denied = d'; peak = p'; bytes = b' } in x ≡ y
 done_equal l r d p b r' d' p' b' e f g h = rw (e, f, g, h) refl
 
+-- the journal that ends with a done line tells it
+pub tells_done : (core : CoreView) (tail : Tail) → tail ≡ tail_of (Some (done_of core)) None → IsSome tail.done
+tells_done core tail e = subst (λ (t : Tail). IsSome t.done) (sym e) refl
+
 -- what a core that is done came to is the report of its run
-pub report_is : (made : Meaning) (script : List Sent) (core : CoreView) (r : Report) → OnceLaw → BytesLaw → RoomLaw → IdleLaw → IsGoodShape core.shape → StandsFor made script [] core → core.width ≡ 1 → core.limits.turns ≡ 65536 → IsIdle core
-    → r.entries ≡ core.journal → r.records ≡ core.next → r.denied ≡ core.denied → r.peak ≡ core.peak → r.bytes ≡ plan_bytes core.shape core.width
-    → IsReportOfRun core.shape made script (complete_report core.shape r.entries (done_in r))
-report_is made script core r once_law bytes_law room_law idle_law good s width turns idle entries records denied peaks bytes =
+pub report_is : (made : Meaning) (script : List Sent) (core : CoreView) (j : Journal) → OnceLaw → BytesLaw → RoomLaw → IdleLaw → IsGoodShape core.shape → StandsFor made script [] core → core.width ≡ 1 → core.limits.turns ≡ 65536 → IsIdle core
+    → j.entries ≡ core.journal → j.tail ≡ tail_of (Some (done_of core)) None
+    → IfSome j.tail.done (λ (d : Done). IsReportOfRun core.shape made script (complete_report core.shape j.entries d))
+report_is made script core j once_law bytes_law room_law idle_law good s width turns idle entries tail =
     let shape = core.shape in
     let first = start shape script [] in
     let n = length script in
@@ -150,11 +157,11 @@ report_is made script core r once_law bytes_law room_law idle_law good s width t
     let slots : EachState (KeepsSlots shape 1 n) first s.trail = subst (λ (h : ℕ). EachState (KeepsSlots shape 1 h) first s.trail) s.handed slots_1 in
     let run : IsRun shape made 65536 first core.journal s.trail s.state = subst (λ (t : ℕ). IsRun shape made t first core.journal s.trail s.state) turns s.run in
     let complete = idle_law made script [] core s idle in
-    let peak_is : r.peak ≡ peak shape n first s.trail = peaks ∙ (s.peak ∙ ap (λ (h : ℕ). peak shape h first s.trail) s.handed) in
-    let bytes_are : r.bytes ≡ plan_bytes shape 1 = bytes ∙ ap (λ (w : ℕ). plan_bytes shape w) width in
-    let lines : complete_report shape r.entries (done_in r) ≡ complete_report shape core.journal (record { launches = length core.journal; records = r.records; denied = r.denied; peak = r.peak; bytes = r.bytes }) = ap (λ (j : List Entry). complete_report shape j (record { launches = length j; records = r.records; denied = r.denied; peak = r.peak; bytes = r.bytes })) entries in
-    let done = done_equal (length core.journal) r.records r.denied r.peak r.bytes s.state.next (denied_of s.trail) (peak shape n first s.trail) (plan_bytes shape 1) (records ∙ s.next) (denied ∙ s.denied) peak_is bytes_are in
-    record {
+    let peak_is : core.peak ≡ peak shape n first s.trail = s.peak ∙ ap (λ (h : ℕ). peak shape h first s.trail) s.handed in
+    let bytes_are : plan_bytes shape core.width ≡ plan_bytes shape 1 = ap (λ (w : ℕ). plan_bytes shape w) width in
+    let lines : complete_report shape j.entries (done_of core) ≡ complete_report shape core.journal (done_of core) = ap (λ (es : List Entry). complete_report shape es (done_of core)) entries in
+    let done = done_equal (length core.journal) core.next core.denied core.peak (plan_bytes shape core.width) s.state.next (denied_of s.trail) (peak shape n first s.trail) (plan_bytes shape 1) s.next s.denied peak_is bytes_are in
+    let report : IsReportOfRun shape made script (complete_report shape j.entries (done_of core)) = record {
       journal = core.journal;
       trail = s.trail;
       final = s.state;
@@ -164,7 +171,8 @@ report_is made script core r once_law bytes_law room_law idle_law good s width t
       within = each_weaker (KeepsSlots shape 1 n) (λ x. live_bytes shape n x ≤ plan_bytes shape 1) first s.trail (λ x k. bytes_law shape 1 n x k) slots;
       never_stands = each_weaker (KeepsSlots shape 1 n) (λ x. x.bag ≢ [] → SomeHasRoom shape 1 n x) first s.trail (λ x k. room_law shape 1 n x good (omega arith) k) slots;
       text_is = lines ∙ ap (λ (d : Done). complete_report shape core.journal d) done;
-    }
+    } in
+    subst (λ (t : Tail). IfSome t.done (λ (d : Done). IsReportOfRun shape made script (complete_report shape j.entries d))) (sym tail) report
 
 -- the numbers of sent records fit
 pub outs_fit : (n : ℕ) (es : List Entry) → n < 2 ^ 64 → Each (λ (e : Entry). e.first_out + e.outs ≤ n) es → Each (λ (e : Entry). e.first_out + e.outs ≤ 2 ^ 64) es

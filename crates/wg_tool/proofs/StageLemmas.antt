@@ -1,30 +1,27 @@
 -- From what one stage answers to what the next one says.
-use Rattle.std.proofs.Common.{◌≡◌, ℕ, List, length, Option, refl, ap, sym, ◌∙◌, subst}
+use Rattle.std.proofs.Common.{◌≡◌, ℕ, List, Option, refl, ap, sym, subst}
 use Rattle.wg_machine.specs.declared.launch.Entry.{Entry}
 use Rattle.wg_machine.specs.declared.launch.Sent.{Sent}
 use Rattle.wg_machine.specs.declared.shape.Shape.{Shape}
 use Rattle.wg_machine.specs.LaunchMeaning.{Meaning}
-use Rattle.wg_core.specs.declared.report.Report.{Report}
+use Rattle.wg_machine.specs.declared.journal.Done.{Done as DoneNumbers}
 use Rattle.wg_tool.specs.declared.answer.Answer.{Answer}
 use Rattle.wg_tool.specs.declared.answer.Answer.TheVariants.{Done}
 use Rattle.wg_tool.specs.declared.pair.Pair.{Pair}
 use Rattle.wg_io.specs.Causes.{AppendsFront}
 use Rattle.wg_tool.specs.Answers.{BeginsText}
 use Rattle.wg_tool.specs.Headline.{ReportsScript}
-use Rattle.wg_tool.specs.Report.{IsReportOfRun, complete_report, done_in}
+use Rattle.wg_tool.specs.Report.{IsReportOfRun, complete_report}
 use Rattle.wg_tool.specs.Script.{IsFormScript, script_text}
 use Rattle.wg_tool.specs.Sending.{sender, made_of, adds_of}
 use Rattle.wg_tool.specs.Stages.{RanSays, ScriptSays}
 use Rattle.wg_tool.specs.Wiring.{shape_of, targets_of}
 
 -- a front of the report is written
-pub report_begun : (shape : Shape) (made : Meaning) (script : List Sent) (r : Report) (es : List Entry) (launches : ℕ) (old new : Option (List ℕ)) → IsReportOfRun shape made script (complete_report shape r.entries (done_in r)) → es ≡ r.entries → launches ≡ length r.entries
-    → AppendsFront old new (complete_report shape es (record { launches = launches; records = r.records; denied = r.denied; peak = r.peak; bytes = r.bytes })) → BeginsText (RanSays shape made script) old new
-report_begun shape made script r es launches old new report e l front =
-    let lines : complete_report shape es (record { launches = launches; records = r.records; denied = r.denied; peak = r.peak; bytes = r.bytes }) ≡ complete_report shape r.entries (done_in r) =
-    ap (λ (j : List Entry). complete_report shape j (record { launches = launches; records = r.records; denied = r.denied; peak = r.peak; bytes = r.bytes })) e
-    ∙ ap (λ (n : ℕ). complete_report shape r.entries (record { launches = n; records = r.records; denied = r.denied; peak = r.peak; bytes = r.bytes })) l in
-    (Done, complete_report shape r.entries (done_in r), (refl, report), subst (λ (t : List ℕ). AppendsFront old new t) lines front)
+pub report_begun : (shape : Shape) (made : Meaning) (script : List Sent) (journal es : List Entry) (done : DoneNumbers) (old new : Option (List ℕ)) → IsReportOfRun shape made script (complete_report shape journal done) → es ≡ journal
+    → AppendsFront old new (complete_report shape es done) → BeginsText (RanSays shape made script) old new
+report_begun shape made script journal es done old new report e front =
+    (Done, complete_report shape journal done, (refl, report), subst (λ (j : List Entry). AppendsFront old new (complete_report shape j done)) e front)
 
 report_for : (pairs : List Pair) (shape : Shape) (targets : List (Option ℕ)) (adds : List ℕ) (script : List Sent) (text : List ℕ) → shape ≡ shape_of pairs → targets ≡ targets_of pairs → adds ≡ adds_of pairs → IsReportOfRun shape (sender targets adds) script text → IsReportOfRun (shape_of pairs) (made_of pairs) script text
 report_for pairs shape targets adds script text s t a report =

@@ -9,14 +9,13 @@ use Rattle.wg_machine.specs.LaunchMeaning.{Meaning}
 use Rattle.wg_machine.specs.Run.{IsRun, IsComplete, EachState, EachOnce, all_born, denied_of}
 use Rattle.wg_machine.specs.State.{State, start}
 use Rattle.wg_machine.specs.Step.{Passed}
-use Rattle.wg_core.specs.declared.report.Report.{Report}
 use Rattle.wg_machine.specs.declared.journal.Done.{Done}
 use Rattle.wg_journal.specs.Texts.{launch_lines, done_line}
 use Rattle.wg_words.specs.declared.limits.TheConstants.{DEFAULT_TURNS}
 
 -- the numbers of a complete run's last line, in a graph's plan for one launch out at a time
-abbrev pub done_of : Shape → List Sent → List Entry → List Passed → State → Done
-done_of shape script journal trail final =
+abbrev pub done_of_run : Shape → List Sent → List Entry → List Passed → State → Done
+done_of_run shape script journal trail final =
     record {
       launches = length journal;
       records = final.next;
@@ -24,10 +23,6 @@ done_of shape script journal trail final =
       peak = peak shape (length script) (start shape script []) trail;
       bytes = plan_bytes shape 1;
     }
-
--- the numbers of the last line of what a core came to
-abbrev pub done_in : Report → Done
-done_in r = record { launches = length r.entries; records = r.records; denied = r.denied; peak = r.peak; bytes = r.bytes }
 
 -- the launch lines of a journal, and the last line
 abbrev pub complete_report : Shape → List Entry → Done → List ℕ
@@ -44,4 +39,4 @@ pub record IsReportOfRun (shape : Shape) (made : Meaning) (script : List Sent) (
   pub once : EachOnce (all_born shape script trail) journal
   pub within : EachState (λ s. live_bytes shape (length script) s ≤ plan_bytes shape 1) (start shape script []) trail
   pub never_stands : EachState (λ s. s.bag ≢ [] → SomeHasRoom shape 1 (length script) s) (start shape script []) trail
-  pub text_is : text ≡ complete_report shape journal (done_of shape script journal trail final)
+  pub text_is : text ≡ complete_report shape journal (done_of_run shape script journal trail final)

@@ -17,7 +17,6 @@ use crate::senders::senders_of;
 use crate::wiring::targets_of;
 use std::alloc::Global;
 use wg_io::{Files, Sink};
-use wg_journal::Done;
 use wg_machine::Entries;
 use wg_words::limits::MOST_FILE_BYTES;
 
@@ -26,17 +25,13 @@ fn run_entries<S: Sink>(alloc: Global, senders: &Senders, entries: Entries, out:
     requires { IsRunnable senders.now.shape entries }
     ensures { Concludes (RanSays senders.now.shape (sender senders.now.targets senders.now.adds) entries) (S.written out.old) (S.written out.new) (S.faults out.old) (S.faults out.new) result }
 {
-    let Ok(report) = run_script(alloc, senders, entries) else {
+    let Ok(journal) = run_script(alloc, senders, entries) else {
         return Answer::OutOfMemory;
     };
-    let done = Done {
-        launches: report.entries.len() as u64,
-        records: report.records,
-        denied: report.denied,
-        peak: report.peak,
-        bytes: report.bytes,
+    let Some(done) = &journal.tail.done else {
+        unreachable!();
     };
-    match print_report(alloc, &senders.shape, report.entries.as_slice(), &done, out) {
+    match print_report(alloc, &senders.shape, journal.entries.as_slice(), done, out) {
         Ok(()) => Answer::Done,
         Err(PrintFault::Write) => Answer::WriteFault,
         Err(PrintFault::Memory) => Answer::OutOfMemory,

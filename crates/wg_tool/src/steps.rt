@@ -44,6 +44,7 @@ fn step(senders: &Senders, core: &mut Core) -> Stepped
     ensures plan { KeepsPlan core.old core.new }
     ensures ran { result ≡ Stepped.Ran → RanOne core.old core.new }
     ensures idle { result ≡ Stepped.Idle → IsIdle core.new }
+    ensures free { result ≡ Stepped.Idle → core.new.stopped ≡ None }
 {
     match core.open() {
         Opened::Idle => Stepped::Idle,
@@ -65,6 +66,7 @@ pub fn run_all(senders: &Senders, core: &mut Core) -> Result<(), AllocError>
     ensures stands { (script : List SentOf) → StandsFor (sender senders.now.targets senders.now.adds) script [] core.old → StandsFor (sender senders.now.targets senders.now.adds) script [] core.new }
     ensures plan { KeepsPlan core.old core.new }
     ensures idle { OnOk result (IsIdle core.new) }
+    ensures free { OnOk result (core.new.stopped ≡ None) }
 {
     loop {
         match step(senders, core) {

@@ -1,5 +1,7 @@
 use Rattle.std.proofs.Common.{◌≡◌, [], ap, subst, sym, ◌∙◌}
+use Rattle.std.specs.Prelude.{IfSome}
 use Rattle.wg_words.specs.Each.{Each}
+use Rattle.wg_machine.specs.declared.journal.Done.{Done}
 use Rattle.wg_machine.specs.declared.launch.Limits.{Limits}
 use Rattle.wg_machine.specs.declared.shape.Shape.{Shape}
 use Rattle.wg_machine.specs.declared.shape.Unit.{Unit}
@@ -8,13 +10,13 @@ use Rattle.wg_machine.specs.GoodShape.{IsGoodShape}
 use Rattle.wg_machine.specs.LaunchMeaning.{Arrives}
 use Rattle.wg_standing.specs.Core.{CoreView}
 use Rattle.wg_standing.specs.Standing.{StandsFor}
-use Rattle.wg_tool.specs.Report.{IsReportOfRun, complete_report, done_in}
+use Rattle.wg_tool.specs.Report.{IsReportOfRun, complete_report}
 use Rattle.wg_tool.specs.Running.{IsShort}
 use Rattle.wg_tool.specs.SenderLaws.{IsWired}
 use Rattle.wg_tool.specs.Sending.{sender}
 use Rattle.wg_tool.specs.Wiring.{shape_of}
 use Rattle.wg_tool.proofs.GoodShapes.{good_shape}
-use Rattle.wg_tool.proofs.RunLemmas.{threads, entries_arrive, runs_are_short, report_is, outs_fit}
+use Rattle.wg_tool.proofs.RunLemmas.{threads, entries_arrive, runs_are_short, report_is, tells_done, outs_fit}
 use Rattle.wg_tool.proofs.run.run_script.Goals as goal
 
 pub new-requires-clause-good : goal.new-requires-clause-good
@@ -45,6 +47,11 @@ run_all-requires-clause-short c =
       short = subst (λ (s : Shape). IsShort s made c.args.entries) (sym shape) short;
     }
 
+pub returns-clause-complete : goal.returns-clause-complete
+returns-clause-complete c =
+    let ran = c.in_ok-run_all.ensures in
+    tells_done c.run_all.new.core c.finish.result.tail (c.finish.ensures.complete ran.free ran.idle)
+
 pub returns-clause-report : goal.returns-clause-report
 returns-clause-report c =
     let senders = c.args.senders.now in
@@ -58,10 +65,11 @@ returns-clause-report c =
     let turns : core.limits.turns ≡ 65536 = ap (λ (l : Limits). l.turns) (plan.limits ∙ ap (λ (n : CoreView). n.limits) begun) in
     let good : IsGoodShape core.shape = subst (λ (s : Shape). IsGoodShape s) (sym (shape ∙ c.requires.is)) (good_shape c.requires.pairs c.requires.form) in
     let stands : StandsFor made c.args.entries [] core = c.in_ok-run_all.ensures.stands c.args.entries (c.in_ok-core.ensures.stands made) in
-    let r = c.finish.result in
+    let j = c.finish.result in
     let f = c.finish.ensures in
-    let report = report_is made c.args.entries core r c.each_once.ensures c.slots_hold_bytes.ensures c.something_has_room.ensures c.idle_is_complete.ensures good stands width turns c.in_ok-run_all.ensures.idle f.entries f.records f.denied f.peak f.bytes in
-    subst (λ (s : Shape). IsReportOfRun s made c.args.entries (complete_report s r.entries (done_in r))) shape report
+    let ran = c.in_ok-run_all.ensures in
+    let report = report_is made c.args.entries core j c.each_once.ensures c.slots_hold_bytes.ensures c.something_has_room.ensures c.idle_is_complete.ensures good stands width turns ran.idle f.entries (f.complete ran.free ran.idle) in
+    subst (λ (s : Shape). IfSome j.tail.done (λ (d : Done). IsReportOfRun s made c.args.entries (complete_report s j.entries d))) shape report
 
 pub returns-clause-outs : goal.returns-clause-outs
-returns-clause-outs c = outs_fit c.finish.result.records c.finish.result.entries c.finish.ensures.records_fit c.finish.ensures.outs
+returns-clause-outs c = outs_fit c.run_all.new.core.next c.finish.result.entries c.finish.ensures.records_fit c.finish.ensures.outs

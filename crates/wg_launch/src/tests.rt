@@ -137,12 +137,14 @@ fn a_launch_on_a_shape_runs_its_nodes_body(rt: HostRuntime) -> Result<(), Fail> 
         function: 0,
         threads: [1, 1, 1],
     };
+    let one = [body];
+    let both = [body, body];
     // the unit, the nodes' bodies, how many records were sent and requests denied, and whether there are new words
     let rows = [
-        (0, [body].as_slice(), (3, 1, false)),
-        (1, [body].as_slice(), (0, 0, true)),
-        (1, [body, body].as_slice(), (3, 1, true)),
-        (2, [body].as_slice(), (0, 0, false)),
+        (0, one.as_slice(), (3, 1, false)),
+        (1, one.as_slice(), (0, 0, true)),
+        (1, both.as_slice(), (3, 1, true)),
+        (2, one.as_slice(), (0, 0, false)),
     ];
     for (unit, bodies, expected) in rows {
         let given = launch_of(alloc, unit)?;

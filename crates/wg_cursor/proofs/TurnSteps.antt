@@ -2,8 +2,8 @@
 use Rattle.std.proofs.Common.{◌≡◌, ℕ, zero, suc, ◌+◌, ◌-◌, ◌<◌, Bool, true, false, List, [], ◌∷◌, ◌++◌, refl, sym, ◌∙◌, ap, subst, append_assoc, arith}
 use Rattle.std.proofs.lemmas.List.{append-nil}
 use Rattle.wg_tokens.specs.declared.token.Token.{Token}
-use Rattle.wg_grammar.specs.Reading.{Outcome, Got, Wrong, Deep, Reader, and_then, pure, sees, many_from}
-use Rattle.wg_cursor.specs.Gives.{Halts}
+use Rattle.wg_grammar.specs.Reading.{Reading, Got, Wrong, Deep, Reader, read_on, pure, sees, many_from}
+use Rattle.wg_cursor.specs.IsReading.{Halts}
 use Rattle.wg_cursor.specs.Turns.{with_front}
 use Rattle.wg_cursor.specs.declared.halt.Halt.{Halt}
 use Rattle.wg_cursor.specs.declared.halt.Halt.TheVariants as halt
@@ -17,7 +17,7 @@ module _ {X : Type 0} (starts : Token → Bool) (item : Reader Token X) where
       → with_front found (many_from starts item (suc n) ts) ≡ with_front (found ++ x ∷ []) (many_from starts item n m)
   one_comes n found ts m x e g = rw (e, g) (go (many_from starts item n m))
     where
-      go : (o : Outcome Token (List X)) → and_then (and_then o (λ xs. pure (x ∷ xs))) (λ ys. pure (found ++ ys)) ≡ and_then o (λ ys. pure (found ++ x ∷ [] ++ ys))
+      go : (o : Reading Token (List X)) → read_on (read_on o (λ xs. pure (x ∷ xs))) (λ ys. pure (found ++ ys)) ≡ read_on o (λ ys. pure (found ++ x ∷ [] ++ ys))
       go (Got xs b) = ap (λ z. Got z b) (sym (append_assoc found (x ∷ []) xs))
       go (Wrong b) = refl
       go (Deep b) = refl
@@ -27,7 +27,7 @@ module _ {X : Type 0} (starts : Token → Bool) (item : Reader Token X) where
   one_halts n found ts left halt.Deep e g = rw (e, g) refl
   one_halts n found ts left halt.Memory e g = tt
 
-  module _ (end turn : ℕ) (found : List X) (ts : List Token) (whole : Outcome Token (List X)) (less : turn < end)
+  module _ (end turn : ℕ) (found : List X) (ts : List Token) (whole : Reading Token (List X)) (less : turn < end)
       (same : with_front found (many_from starts item (end - turn) ts) ≡ whole) where
     again : with_front found (many_from starts item (suc (end - (turn + 1))) ts) ≡ whole
     again = let more : suc (end - (turn + 1)) ≡ end - turn = omega (arith, less) in ap (λ n. with_front found (many_from starts item n ts)) more ∙ same

@@ -1,2 +1,3 @@
-pub mod Gives
+pub mod ClassSets
+pub mod IsReading
 pub mod Turns

@@ -1,162 +1,217 @@
-//! The terminals of the grammar as numbers: the class of a token is one of them.
-ghost use Rattle.std.specs.Prelude.{◌≡◌};
-ghost use Rattle.wg_tree.specs.Symbols as spec;
-
-use wg_tokens::Keyword;
+//! The classes of tokens by names.
+use wg_tokens::{Class, Keyword, Mark};
 
 /// A name.
-pub const NAME: u32 = 0x100_0000;
+pub const NAME: Class = Class::Name;
+
 /// A number of value 0.
-pub const ZERO: u32 = 0x100_0001;
+pub const ZERO: Class = Class::Zero;
+
 /// A number of another value.
-pub const NUMBER: u32 = 0x100_0002;
+pub const NUMBER: Class = Class::Number;
 
 /// A string.
-pub const TEXT: u32 = 0x100_0003;
+pub const TEXT: Class = Class::Text;
 
 /// What stands after the last token.
-pub const END: u32 = 0x100_0004;
+pub const END: Class = Class::End;
 
-/// The first word of the language; the others follow in their order.
-pub const WORDS: u32 = 0x100_0010;
-
-/// The number of a word of the language.
-pub const fn code(keyword: Keyword) -> u32
-    ensures { result ≡ spec.code keyword }
-{
-    WORDS + keyword as u32
-}
-
-// Marks: their bytes in base 256, the first byte the highest.
+// Marks.
 
 /// `(`.
-pub const LEFT_PAREN: u32 = b'(' as u32;
+pub const LEFT_PAREN: Class = Class::Mark {
+    mark: Mark::LeftParen,
+};
 
 /// `)`.
-pub const RIGHT_PAREN: u32 = b')' as u32;
+pub const RIGHT_PAREN: Class = Class::Mark {
+    mark: Mark::RightParen,
+};
 
 /// `[`.
-pub const LEFT_BRACKET: u32 = b'[' as u32;
+pub const LEFT_BRACKET: Class = Class::Mark {
+    mark: Mark::LeftBracket,
+};
 
 /// `]`.
-pub const RIGHT_BRACKET: u32 = b']' as u32;
+pub const RIGHT_BRACKET: Class = Class::Mark {
+    mark: Mark::RightBracket,
+};
 
 /// `{`.
-pub const LEFT_BRACE: u32 = b'{' as u32;
+pub const LEFT_BRACE: Class = Class::Mark {
+    mark: Mark::LeftBrace,
+};
 
 /// `}`.
-pub const RIGHT_BRACE: u32 = b'}' as u32;
+pub const RIGHT_BRACE: Class = Class::Mark {
+    mark: Mark::RightBrace,
+};
 
 /// `,`.
-pub const COMMA: u32 = b',' as u32;
+pub const COMMA: Class = Class::Mark { mark: Mark::Comma };
 
 /// `.`.
-pub const DOT: u32 = b'.' as u32;
+pub const DOT: Class = Class::Mark { mark: Mark::Dot };
 
 /// `;`.
-pub const SEMICOLON: u32 = b';' as u32;
+pub const SEMICOLON: Class = Class::Mark {
+    mark: Mark::Semicolon,
+};
 
 /// `:`.
-pub const COLON: u32 = b':' as u32;
+pub const COLON: Class = Class::Mark { mark: Mark::Colon };
 
 /// `?`.
-pub const QUESTION: u32 = b'?' as u32;
+pub const QUESTION: Class = Class::Mark {
+    mark: Mark::Question,
+};
 
 /// `=`.
-pub const ASSIGN: u32 = b'=' as u32;
+pub const ASSIGN: Class = Class::Mark { mark: Mark::Assign };
 
 /// `+`.
-pub const PLUS: u32 = b'+' as u32;
+pub const PLUS: Class = Class::Mark { mark: Mark::Plus };
 
 /// `-`.
-pub const MINUS: u32 = b'-' as u32;
+pub const MINUS: Class = Class::Mark { mark: Mark::Minus };
 
 /// `!`.
-pub const NOT: u32 = b'!' as u32;
+pub const NOT: Class = Class::Mark { mark: Mark::Not };
 
 /// `~`.
-pub const TILDE: u32 = b'~' as u32;
+pub const TILDE: Class = Class::Mark { mark: Mark::Tilde };
 
 /// `*`.
-pub const STAR: u32 = b'*' as u32;
+pub const STAR: Class = Class::Mark { mark: Mark::Star };
 
 /// `/`.
-pub const SLASH: u32 = b'/' as u32;
+pub const SLASH: Class = Class::Mark { mark: Mark::Slash };
 
 /// `%`.
-pub const PERCENT: u32 = b'%' as u32;
+pub const PERCENT: Class = Class::Mark {
+    mark: Mark::Percent,
+};
 
 /// `&`.
-pub const AMPERSAND: u32 = b'&' as u32;
+pub const AMPERSAND: Class = Class::Mark {
+    mark: Mark::Ampersand,
+};
 
 /// `^`.
-pub const CARET: u32 = b'^' as u32;
+pub const CARET: Class = Class::Mark { mark: Mark::Caret };
 
 /// `|`.
-pub const BAR: u32 = b'|' as u32;
+pub const BAR: Class = Class::Mark { mark: Mark::Bar };
 
 /// `<`.
-pub const LESS: u32 = b'<' as u32;
+pub const LESS: Class = Class::Mark { mark: Mark::Less };
 
 /// `>`.
-pub const GREATER: u32 = b'>' as u32;
+pub const GREATER: Class = Class::Mark {
+    mark: Mark::Greater,
+};
+
 /// `<=`.
-pub const AT_MOST: u32 = LESS * 256 + ASSIGN;
+pub const AT_MOST: Class = Class::Mark { mark: Mark::AtMost };
+
 /// `>=`.
-pub const AT_LEAST: u32 = GREATER * 256 + ASSIGN;
+pub const AT_LEAST: Class = Class::Mark {
+    mark: Mark::AtLeast,
+};
+
 /// `==`.
-pub const EQUAL: u32 = ASSIGN * 256 + ASSIGN;
+pub const EQUAL: Class = Class::Mark { mark: Mark::Equal };
+
 /// `!=`.
-pub const NOT_EQUAL: u32 = NOT * 256 + ASSIGN;
+pub const NOT_EQUAL: Class = Class::Mark {
+    mark: Mark::NotEqual,
+};
+
 /// `<<`.
-pub const SHIFT_LEFT: u32 = LESS * 256 + LESS;
+pub const SHIFT_LEFT: Class = Class::Mark {
+    mark: Mark::ShiftLeft,
+};
+
 /// `>>`.
-pub const SHIFT_RIGHT: u32 = GREATER * 256 + GREATER;
+pub const SHIFT_RIGHT: Class = Class::Mark {
+    mark: Mark::ShiftRight,
+};
+
 /// `&&`.
-pub const AND: u32 = AMPERSAND * 256 + AMPERSAND;
+pub const AND: Class = Class::Mark { mark: Mark::And };
+
 /// `||`.
-pub const OR: u32 = BAR * 256 + BAR;
+pub const OR: Class = Class::Mark { mark: Mark::Or };
 
 // Words of the language that stand in sets.
 
 /// `true`.
-pub const TRUE: u32 = WORDS + Keyword::True as u32;
+pub const TRUE: Class = Class::Word {
+    keyword: Keyword::True,
+};
 
 /// `false`.
-pub const FALSE: u32 = WORDS + Keyword::False as u32;
+pub const FALSE: Class = Class::Word {
+    keyword: Keyword::False,
+};
 
 /// `bool`.
-pub const BOOL: u32 = WORDS + Keyword::Bool as u32;
+pub const BOOL: Class = Class::Word {
+    keyword: Keyword::Bool,
+};
 
 /// `bool2`.
-pub const BOOL2: u32 = WORDS + Keyword::Bool2 as u32;
+pub const BOOL2: Class = Class::Word {
+    keyword: Keyword::Bool2,
+};
 
 /// `bool3`.
-pub const BOOL3: u32 = WORDS + Keyword::Bool3 as u32;
+pub const BOOL3: Class = Class::Word {
+    keyword: Keyword::Bool3,
+};
 
 /// `bool4`.
-pub const BOOL4: u32 = WORDS + Keyword::Bool4 as u32;
+pub const BOOL4: Class = Class::Word {
+    keyword: Keyword::Bool4,
+};
 
 /// `int`.
-pub const INT: u32 = WORDS + Keyword::Int as u32;
+pub const INT: Class = Class::Word {
+    keyword: Keyword::Int,
+};
 
 /// `int2`.
-pub const INT2: u32 = WORDS + Keyword::Int2 as u32;
+pub const INT2: Class = Class::Word {
+    keyword: Keyword::Int2,
+};
 
 /// `int3`.
-pub const INT3: u32 = WORDS + Keyword::Int3 as u32;
+pub const INT3: Class = Class::Word {
+    keyword: Keyword::Int3,
+};
 
 /// `int4`.
-pub const INT4: u32 = WORDS + Keyword::Int4 as u32;
+pub const INT4: Class = Class::Word {
+    keyword: Keyword::Int4,
+};
 
 /// `uint`.
-pub const UINT: u32 = WORDS + Keyword::Uint as u32;
+pub const UINT: Class = Class::Word {
+    keyword: Keyword::Uint,
+};
 
 /// `uint2`.
-pub const UINT2: u32 = WORDS + Keyword::Uint2 as u32;
+pub const UINT2: Class = Class::Word {
+    keyword: Keyword::Uint2,
+};
 
 /// `uint3`.
-pub const UINT3: u32 = WORDS + Keyword::Uint3 as u32;
+pub const UINT3: Class = Class::Word {
+    keyword: Keyword::Uint3,
+};
 
 /// `uint4`.
-pub const UINT4: u32 = WORDS + Keyword::Uint4 as u32;
+pub const UINT4: Class = Class::Word {
+    keyword: Keyword::Uint4,
+};

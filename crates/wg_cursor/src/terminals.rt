@@ -1,52 +1,47 @@
 //! The classes of tokens.
 ghost use Rattle.std.specs.Prelude.{◌≡◌, map, IfOk};
-ghost use Rattle.wg_tree.specs.Symbols as spec;
+ghost use Rattle.wg_tokens.specs.Classes as spec;
 ghost use Rattle.wg_tree.specs.GrammarExpr.{at_class};
 
-use crate::symbols::{END, NAME, NUMBER, TEXT, ZERO, code};
 use std::alloc::{AllocError, Global};
-use wg_tokens::{KEYWORDS, Keyword, Token, TokenKind};
-
-fn lookup(words: &[(&[u8], Keyword)], name: &[u8]) -> Option<Keyword>
-    ensures { result ≡ spec.lookup (map (λ word. (word.0.now, word.1)) words.now) name.now }
-{
-    match words {
-        [] => None,
-        [(spelled, keyword), ..] if *spelled == name => Some(*keyword),
-        [_, rest @ ..] => lookup(rest, name),
-    }
-}
+use wg_tokens::{Class, Token, TokenKind, keyword_of};
 
 /// Which terminal a token is.
-pub fn class(token: &Token) -> u32
-    ensures { result ≡ spec.class token.now }
+pub fn class(token: &Token) -> Class
+    ensures { result ≡ spec.class_of token.now.kind }
 {
     match &token.kind {
-        TokenKind::Plain { name } => match lookup(&KEYWORDS, name.as_slice()) {
-            Some(keyword) => code(keyword),
-            None => NAME,
+        TokenKind::Plain { name } => match keyword_of(name.as_slice()) {
+            Some(keyword) => Class::Word { keyword },
+            None => Class::Name,
         },
-        TokenKind::Number { value, .. } => { if *value == 0 { ZERO } else { NUMBER } }
-        TokenKind::Text { .. } => TEXT,
-        TokenKind::Mark { code } => *code,
-        TokenKind::End => END,
+        TokenKind::Number { value, .. } => {
+            if *value == 0 {
+                Class::Zero
+            } else {
+                Class::Number
+            }
+        }
+        TokenKind::Text { .. } => Class::Text,
+        TokenKind::Mark { mark } => Class::Mark { mark: *mark },
+        TokenKind::End => Class::End,
     }
 }
 
 /// What a table has for a class, and `other` where it has none.
-pub fn at_class<T: Copy>(table: &[(u32, T)], other: T, class: u32) -> T
-    ensures { result ≡ at_class table.now other class }
+pub fn at_class<T: Copy>(table: &[(Class, T)], other: T, class: Class) -> T
+    ensures { result ≡ at_class (map (λ entry. (spec.number entry.0, entry.1)) table.now) other (spec.number class) }
 {
     match table {
         [] => other,
-        [(key, value), ..] if class == *key => *value,
+        [(key, value), ..] if class.number() == key.number() => *value,
         [_, rest @ ..] => at_class(rest, other, class),
     }
 }
 
 /// The classes of tokens, in order.
-pub fn classes(alloc: Global, tokens: &[Token]) -> Result<Vec<u32>, AllocError>
-    ensures { IfOk result (λ classes. classes.items ≡ map spec.class tokens.now) }
+pub fn classes(alloc: Global, tokens: &[Token]) -> Result<Vec<Class>, AllocError>
+    ensures { IfOk result (λ classes. classes.items ≡ map (λ token. spec.class_of token.kind) tokens.now) }
 {
     let mut classes = Vec::with_capacity(alloc, tokens.len())?;
     for token in tokens {

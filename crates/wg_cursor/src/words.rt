@@ -1,130 +1,227 @@
 //! Words and marks that stand in the sets of statements and items.
-use crate::symbols::{
-    AMPERSAND, ASSIGN, BAR, CARET, MINUS, PERCENT, PLUS, SHIFT_LEFT, SHIFT_RIGHT, SLASH, STAR,
-    WORDS,
-};
-use wg_tokens::Keyword;
+use wg_tokens::{Class, Keyword, Mark};
 
 /// `struct`.
-pub const STRUCT: u32 = WORDS + Keyword::Struct as u32;
+pub const STRUCT: Class = Class::Word {
+    keyword: Keyword::Struct,
+};
 
 /// `globallycoherent`.
-pub const GLOBALLY_COHERENT: u32 = WORDS + Keyword::GloballyCoherent as u32;
+pub const GLOBALLY_COHERENT: Class = Class::Word {
+    keyword: Keyword::GloballyCoherent,
+};
 
 /// `RWByteAddressBuffer`.
-pub const RW_BYTE_ADDRESS_BUFFER: u32 = WORDS + Keyword::RwByteAddressBuffer as u32;
+pub const RW_BYTE_ADDRESS_BUFFER: Class = Class::Word {
+    keyword: Keyword::RwByteAddressBuffer,
+};
 
 /// `ByteAddressBuffer`.
-pub const BYTE_ADDRESS_BUFFER: u32 = WORDS + Keyword::ByteAddressBuffer as u32;
+pub const BYTE_ADDRESS_BUFFER: Class = Class::Word {
+    keyword: Keyword::ByteAddressBuffer,
+};
 
 /// `RWStructuredBuffer`.
-pub const RW_STRUCTURED_BUFFER: u32 = WORDS + Keyword::RwStructuredBuffer as u32;
+pub const RW_STRUCTURED_BUFFER: Class = Class::Word {
+    keyword: Keyword::RwStructuredBuffer,
+};
 
 /// `StructuredBuffer`.
-pub const STRUCTURED_BUFFER: u32 = WORDS + Keyword::StructuredBuffer as u32;
+pub const STRUCTURED_BUFFER: Class = Class::Word {
+    keyword: Keyword::StructuredBuffer,
+};
 
 /// `groupshared`.
-pub const GROUP_SHARED: u32 = WORDS + Keyword::GroupShared as u32;
+pub const GROUP_SHARED: Class = Class::Word {
+    keyword: Keyword::GroupShared,
+};
 
 /// `static`.
-pub const STATIC: u32 = WORDS + Keyword::Static as u32;
+pub const STATIC: Class = Class::Word {
+    keyword: Keyword::Static,
+};
 
 /// `const`.
-pub const CONST: u32 = WORDS + Keyword::Const as u32;
+pub const CONST: Class = Class::Word {
+    keyword: Keyword::Const,
+};
 
 /// `void`.
-pub const VOID: u32 = WORDS + Keyword::Void as u32;
+pub const VOID: Class = Class::Word {
+    keyword: Keyword::Void,
+};
 
 /// `in`.
-pub const IN: u32 = WORDS + Keyword::In as u32;
+pub const IN: Class = Class::Word {
+    keyword: Keyword::In,
+};
 
 /// `out`.
-pub const OUT: u32 = WORDS + Keyword::Out as u32;
+pub const OUT: Class = Class::Word {
+    keyword: Keyword::Out,
+};
 
 /// `inout`.
-pub const IN_OUT: u32 = WORDS + Keyword::InOut as u32;
+pub const IN_OUT: Class = Class::Word {
+    keyword: Keyword::InOut,
+};
 
 /// `break`.
-pub const BREAK: u32 = WORDS + Keyword::Break as u32;
+pub const BREAK: Class = Class::Word {
+    keyword: Keyword::Break,
+};
 
 /// `continue`.
-pub const CONTINUE: u32 = WORDS + Keyword::Continue as u32;
+pub const CONTINUE: Class = Class::Word {
+    keyword: Keyword::Continue,
+};
 
 /// `return`.
-pub const RETURN: u32 = WORDS + Keyword::Return as u32;
+pub const RETURN: Class = Class::Word {
+    keyword: Keyword::Return,
+};
 
 /// `if`.
-pub const IF: u32 = WORDS + Keyword::If as u32;
+pub const IF: Class = Class::Word {
+    keyword: Keyword::If,
+};
 
 /// `else`.
-pub const ELSE: u32 = WORDS + Keyword::Else as u32;
+pub const ELSE: Class = Class::Word {
+    keyword: Keyword::Else,
+};
 
 /// `while`.
-pub const WHILE: u32 = WORDS + Keyword::While as u32;
+pub const WHILE: Class = Class::Word {
+    keyword: Keyword::While,
+};
 
 /// `for`.
-pub const FOR: u32 = WORDS + Keyword::For as u32;
+pub const FOR: Class = Class::Word {
+    keyword: Keyword::For,
+};
 
 /// `DispatchNodeInputRecord`.
-pub const DISPATCH_NODE_INPUT_RECORD: u32 = WORDS + Keyword::DispatchNodeInputRecord as u32;
+pub const DISPATCH_NODE_INPUT_RECORD: Class = Class::Word {
+    keyword: Keyword::DispatchNodeInputRecord,
+};
 
 /// `RWDispatchNodeInputRecord`.
-pub const RW_DISPATCH_NODE_INPUT_RECORD: u32 = WORDS + Keyword::RwDispatchNodeInputRecord as u32;
+pub const RW_DISPATCH_NODE_INPUT_RECORD: Class = Class::Word {
+    keyword: Keyword::RwDispatchNodeInputRecord,
+};
 
 /// `GroupNodeInputRecords`.
-pub const GROUP_NODE_INPUT_RECORDS: u32 = WORDS + Keyword::GroupNodeInputRecords as u32;
+pub const GROUP_NODE_INPUT_RECORDS: Class = Class::Word {
+    keyword: Keyword::GroupNodeInputRecords,
+};
 
 /// `RWGroupNodeInputRecords`.
-pub const RW_GROUP_NODE_INPUT_RECORDS: u32 = WORDS + Keyword::RwGroupNodeInputRecords as u32;
+pub const RW_GROUP_NODE_INPUT_RECORDS: Class = Class::Word {
+    keyword: Keyword::RwGroupNodeInputRecords,
+};
 
 /// `ThreadNodeInputRecord`.
-pub const THREAD_NODE_INPUT_RECORD: u32 = WORDS + Keyword::ThreadNodeInputRecord as u32;
+pub const THREAD_NODE_INPUT_RECORD: Class = Class::Word {
+    keyword: Keyword::ThreadNodeInputRecord,
+};
 
 /// `RWThreadNodeInputRecord`.
-pub const RW_THREAD_NODE_INPUT_RECORD: u32 = WORDS + Keyword::RwThreadNodeInputRecord as u32;
+pub const RW_THREAD_NODE_INPUT_RECORD: Class = Class::Word {
+    keyword: Keyword::RwThreadNodeInputRecord,
+};
 
 /// `EmptyNodeInput`.
-pub const EMPTY_NODE_INPUT: u32 = WORDS + Keyword::EmptyNodeInput as u32;
+pub const EMPTY_NODE_INPUT: Class = Class::Word {
+    keyword: Keyword::EmptyNodeInput,
+};
 
 /// `NodeOutput`.
-pub const NODE_OUTPUT: u32 = WORDS + Keyword::NodeOutput as u32;
+pub const NODE_OUTPUT: Class = Class::Word {
+    keyword: Keyword::NodeOutput,
+};
 
 /// `NodeOutputArray`.
-pub const NODE_OUTPUT_ARRAY: u32 = WORDS + Keyword::NodeOutputArray as u32;
+pub const NODE_OUTPUT_ARRAY: Class = Class::Word {
+    keyword: Keyword::NodeOutputArray,
+};
 
 /// `EmptyNodeOutput`.
-pub const EMPTY_NODE_OUTPUT: u32 = WORDS + Keyword::EmptyNodeOutput as u32;
+pub const EMPTY_NODE_OUTPUT: Class = Class::Word {
+    keyword: Keyword::EmptyNodeOutput,
+};
 
 /// `EmptyNodeOutputArray`.
-pub const EMPTY_NODE_OUTPUT_ARRAY: u32 = WORDS + Keyword::EmptyNodeOutputArray as u32;
+pub const EMPTY_NODE_OUTPUT_ARRAY: Class = Class::Word {
+    keyword: Keyword::EmptyNodeOutputArray,
+};
 
 /// `ThreadNodeOutputRecords`.
-pub const THREAD_NODE_OUTPUT_RECORDS: u32 = WORDS + Keyword::ThreadNodeOutputRecords as u32;
+pub const THREAD_NODE_OUTPUT_RECORDS: Class = Class::Word {
+    keyword: Keyword::ThreadNodeOutputRecords,
+};
 
 /// `GroupNodeOutputRecords`.
-pub const GROUP_NODE_OUTPUT_RECORDS: u32 = WORDS + Keyword::GroupNodeOutputRecords as u32;
+pub const GROUP_NODE_OUTPUT_RECORDS: Class = Class::Word {
+    keyword: Keyword::GroupNodeOutputRecords,
+};
 
 /// `*=`.
-pub const STAR_ASSIGN: u32 = STAR * 256 + ASSIGN;
+pub const STAR_ASSIGN: Class = Class::Mark {
+    mark: Mark::StarAssign,
+};
+
 /// `/=`.
-pub const SLASH_ASSIGN: u32 = SLASH * 256 + ASSIGN;
+pub const SLASH_ASSIGN: Class = Class::Mark {
+    mark: Mark::SlashAssign,
+};
+
 /// `%=`.
-pub const PERCENT_ASSIGN: u32 = PERCENT * 256 + ASSIGN;
+pub const PERCENT_ASSIGN: Class = Class::Mark {
+    mark: Mark::PercentAssign,
+};
+
 /// `+=`.
-pub const PLUS_ASSIGN: u32 = PLUS * 256 + ASSIGN;
+pub const PLUS_ASSIGN: Class = Class::Mark {
+    mark: Mark::PlusAssign,
+};
+
 /// `-=`.
-pub const MINUS_ASSIGN: u32 = MINUS * 256 + ASSIGN;
+pub const MINUS_ASSIGN: Class = Class::Mark {
+    mark: Mark::MinusAssign,
+};
+
 /// `<<=`.
-pub const SHIFT_LEFT_ASSIGN: u32 = SHIFT_LEFT * 256 + ASSIGN;
+pub const SHIFT_LEFT_ASSIGN: Class = Class::Mark {
+    mark: Mark::ShiftLeftAssign,
+};
+
 /// `>>=`.
-pub const SHIFT_RIGHT_ASSIGN: u32 = SHIFT_RIGHT * 256 + ASSIGN;
+pub const SHIFT_RIGHT_ASSIGN: Class = Class::Mark {
+    mark: Mark::ShiftRightAssign,
+};
+
 /// `&=`.
-pub const AMPERSAND_ASSIGN: u32 = AMPERSAND * 256 + ASSIGN;
+pub const AMPERSAND_ASSIGN: Class = Class::Mark {
+    mark: Mark::AmpersandAssign,
+};
+
 /// `^=`.
-pub const CARET_ASSIGN: u32 = CARET * 256 + ASSIGN;
+pub const CARET_ASSIGN: Class = Class::Mark {
+    mark: Mark::CaretAssign,
+};
+
 /// `|=`.
-pub const BAR_ASSIGN: u32 = BAR * 256 + ASSIGN;
+pub const BAR_ASSIGN: Class = Class::Mark {
+    mark: Mark::BarAssign,
+};
+
 /// `++`.
-pub const INCREMENT: u32 = PLUS * 256 + PLUS;
+pub const INCREMENT: Class = Class::Mark {
+    mark: Mark::Increment,
+};
+
 /// `--`.
-pub const DECREMENT: u32 = MINUS * 256 + MINUS;
+pub const DECREMENT: Class = Class::Mark {
+    mark: Mark::Decrement,
+};

@@ -1,30 +1,31 @@
 //! What stands one deeper in an expression. What reads it is a parameter, so that each part is proved by itself.
 ghost use Rattle.std.specs.Prelude.{◌≡◌, [], ◌∷◌, true};
-ghost use Rattle.wg_tree.specs.Symbols as symbols;
+ghost use Rattle.wg_tokens.specs.Classes as symbols;
 ghost use Rattle.wg_tree.specs.GrammarExpr as grammar;
-ghost use Rattle.wg_grammar.specs.Parts as parts;
-ghost use Rattle.wg_cursor.specs.Gives.{Gives, Lends};
-ghost use Rattle.wg_expressions.specs.Rooms.{Nests, inside, read, comma_expr, exprs};
+ghost use Rattle.wg_grammar.specs.Productions as parts;
+ghost use Rattle.wg_cursor.specs.ClassSets.{numbers};
+ghost use Rattle.wg_cursor.specs.IsReading.{IsReading, Lends};
+ghost use Rattle.wg_expressions.specs.Rooms.{Nests, inside, read};
 
-use crate::kind::{Kind, Nested};
+use crate::kind::{ExprKind, Nested};
 use sqlite_items::Items;
 use std::alloc::Global;
 use wg_cursor::symbols::{COMMA, LEFT_PAREN, NAME, RIGHT_PAREN};
 use wg_cursor::{Cursor, Halt, read_by_turns};
-use wg_tokens::Token;
+use wg_tokens::{Class, Token};
 use wg_tree::{Expr, Named};
 use wg_words::Place;
 
 #[derive(Clone, Copy)]
 pub(crate) struct Inner<F> {
     pub alloc: Global,
-    pub kind: Kind,
+    pub kind: ExprKind,
     /// How much deeper it may go.
     pub room: u32,
     pub nested: F,
 }
 
-impl<F: Fn(Global, &mut Cursor<'_>, Kind, u32, Nested) -> Result<Expr, Halt>> Inner<F> {
+impl<F: Fn(Global, &mut Cursor<'_>, ExprKind, u32, Nested) -> Result<Expr, Halt>> Inner<F> {
     /// Whether there is room for what is one deeper.
     fn has_room(&self) -> bool
         ensures { result ≡ (inside self.now.kind self.now.room).room }
@@ -33,8 +34,8 @@ impl<F: Fn(Global, &mut Cursor<'_>, Kind, u32, Nested) -> Result<Expr, Halt>> In
     }
 
     /// Takes the next token, one deeper, if it is of one of these classes.
-    pub(crate) fn take<'a>(&self, cursor: &mut Cursor<'a>, set: &[u32]) -> Result<&'a Token, Halt>
-        ensures { Lends (parts.read_token true (inside self.now.kind self.now.room).room (parts.of symbols.class set.now) (λ t. t) cursor.old) result cursor.new }
+    pub(crate) fn take<'a>(&self, cursor: &mut Cursor<'a>, set: &[Class]) -> Result<&'a Token, Halt>
+        ensures { Lends (parts.read_token true (inside self.now.kind self.now.room).room (parts.of symbols.class (numbers set.now)) (λ t. t) cursor.old) result cursor.new }
     {
         if self.has_room() {
             cursor.take(set)
@@ -43,18 +44,18 @@ impl<F: Fn(Global, &mut Cursor<'_>, Kind, u32, Nested) -> Result<Expr, Halt>> In
         }
     }
 
-    pub(crate) fn mark(&self, cursor: &mut Cursor<'_>, code: u32) -> Result<Place, Halt>
-        ensures { Gives (parts.read_token true (inside self.now.kind self.now.room).room (parts.of symbols.class (code ∷ [])) (λ t. t.place) cursor.old) result cursor.new }
+    pub(crate) fn mark(&self, cursor: &mut Cursor<'_>, class: Class) -> Result<Place, Halt>
+        ensures { IsReading (parts.read_token true (inside self.now.kind self.now.room).room (parts.of symbols.class (symbols.number class ∷ [])) (λ t. t.place) cursor.old) result cursor.new }
     {
         if self.has_room() {
-            cursor.mark(code)
+            cursor.mark(class)
         } else {
-            Err(cursor.too_deep(&[code]))
+            Err(cursor.too_deep(&[class]))
         }
     }
 
     pub(crate) fn name(&self, cursor: &mut Cursor<'_>) -> Result<Named, Halt>
-        ensures { Gives (parts.read_token true (inside self.now.kind self.now.room).room (parts.of symbols.class (symbols.NAME ∷ [])) grammar.named cursor.old) result cursor.new }
+        ensures { IsReading (parts.read_token true (inside self.now.kind self.now.room).room (parts.of symbols.class (symbols.NAME ∷ [])) grammar.placed_name cursor.old) result cursor.new }
     {
         if self.has_room() {
             cursor.name(self.alloc)
@@ -65,21 +66,21 @@ impl<F: Fn(Global, &mut Cursor<'_>, Kind, u32, Nested) -> Result<Expr, Halt>> In
 
     pub(crate) fn whole(&self, cursor: &mut Cursor<'_>) -> Result<Expr, Halt>
         requires { Nests self.now.room (F.pre self.now.nested) (F.post self.now.nested) }
-        ensures { Gives ((inside self.now.kind self.now.room).read grammar.whole cursor.old) result cursor.new }
+        ensures { IsReading ((inside self.now.kind self.now.room).read grammar.whole cursor.old) result cursor.new }
     {
         (self.nested)(self.alloc, cursor, self.kind, self.room, Nested::Whole)
     }
 
     pub(crate) fn operand(&self, cursor: &mut Cursor<'_>) -> Result<Expr, Halt>
         requires { Nests self.now.room (F.pre self.now.nested) (F.post self.now.nested) }
-        ensures { Gives ((inside self.now.kind self.now.room).read grammar.operand cursor.old) result cursor.new }
+        ensures { IsReading ((inside self.now.kind self.now.room).read grammar.operand cursor.old) result cursor.new }
     {
         (self.nested)(self.alloc, cursor, self.kind, self.room, Nested::Operand)
     }
 
     fn comma_expr(&self, cursor: &mut Cursor<'_>) -> Result<Expr, Halt>
         requires { Nests self.now.room (F.pre self.now.nested) (F.post self.now.nested) }
-        ensures { Gives (read self.now.kind self.now.room comma_expr cursor.old) result cursor.new }
+        ensures { IsReading (read self.now.kind self.now.room grammar.comma_expr cursor.old) result cursor.new }
     {
         self.mark(cursor, COMMA)?;
         self.whole(cursor)
@@ -87,7 +88,7 @@ impl<F: Fn(Global, &mut Cursor<'_>, Kind, u32, Nested) -> Result<Expr, Halt>> In
 
     pub(crate) fn some_exprs(&self, cursor: &mut Cursor<'_>) -> Result<Items<Expr>, Halt>
         requires { Nests self.now.room (F.pre self.now.nested) (F.post self.now.nested) }
-        ensures { Gives (read self.now.kind self.now.room grammar.some_exprs cursor.old) result cursor.new }
+        ensures { IsReading (read self.now.kind self.now.room grammar.some_exprs cursor.old) result cursor.new }
     {
         read_by_turns::<Expr>();
         let mut found = Items::new(self.alloc);
@@ -103,7 +104,7 @@ impl<F: Fn(Global, &mut Cursor<'_>, Kind, u32, Nested) -> Result<Expr, Halt>> In
 
     fn some_exprs_or_none(&self, cursor: &mut Cursor<'_>) -> Result<Items<Expr>, Halt>
         requires { Nests self.now.room (F.pre self.now.nested) (F.post self.now.nested) }
-        ensures { Gives (read self.now.kind self.now.room exprs cursor.old) result cursor.new }
+        ensures { IsReading (read self.now.kind self.now.room grammar.exprs cursor.old) result cursor.new }
     {
         if cursor.sees(self.kind.starts()) {
             self.some_exprs(cursor)
@@ -115,7 +116,7 @@ impl<F: Fn(Global, &mut Cursor<'_>, Kind, u32, Nested) -> Result<Expr, Halt>> In
     /// Arguments in brackets.
     fn arguments(&self, cursor: &mut Cursor<'_>) -> Result<Items<Expr>, Halt>
         requires { Nests self.now.room (F.pre self.now.nested) (F.post self.now.nested) }
-        ensures { Gives (read self.now.kind self.now.room grammar.arguments cursor.old) result cursor.new }
+        ensures { IsReading (read self.now.kind self.now.room grammar.arguments cursor.old) result cursor.new }
     {
         self.mark(cursor, LEFT_PAREN)?;
         let arguments = self.some_exprs_or_none(cursor)?;
@@ -129,7 +130,7 @@ impl<F: Fn(Global, &mut Cursor<'_>, Kind, u32, Nested) -> Result<Expr, Halt>> In
         cursor: &mut Cursor<'_>,
     ) -> Result<Option<Items<Expr>>, Halt>
         requires { Nests self.now.room (F.pre self.now.nested) (F.post self.now.nested) }
-        ensures { Gives (read self.now.kind self.now.room (grammar.optional grammar.arguments) cursor.old) result cursor.new }
+        ensures { IsReading (read self.now.kind self.now.room (grammar.optional grammar.arguments) cursor.old) result cursor.new }
     {
         if cursor.sees(&[LEFT_PAREN]) {
             let arguments = self.arguments(cursor)?;

@@ -1,34 +1,36 @@
 //! Kinds of expressions, and the sets of classes that decide on them.
 ghost use Rattle.std.specs.Prelude.{◌≡◌};
 ghost use Rattle.wg_tree.specs.ReadsExpr as reads;
+ghost use Rattle.wg_cursor.specs.ClassSets.{numbers};
 ghost use Rattle.wg_expressions.specs.Kinds.{kind_of};
 
 use wg_cursor::symbols::{
     BOOL, BOOL2, BOOL3, BOOL4, FALSE, INT, INT2, INT3, INT4, LEFT_PAREN, MINUS, NAME, NOT, NUMBER,
     PLUS, TEXT, TILDE, TRUE, UINT, UINT2, UINT3, UINT4, ZERO,
 };
+use wg_tokens::Class;
 
 /// The classes of the types of values.
-pub const VALUE_TYPES: [u32; 12] = [
+pub const VALUE_TYPES: [Class; 12] = [
     BOOL, BOOL2, BOOL3, BOOL4, INT, INT2, INT3, INT4, UINT, UINT2, UINT3, UINT4,
 ];
 
-pub(crate) const PREFIX_OPERATORS: [u32; 4] = [MINUS, PLUS, NOT, TILDE];
+pub(crate) const PREFIX_OPERATORS: [Class; 4] = [MINUS, PLUS, NOT, TILDE];
 
-const STARTS: [u32; 22] = [
+const STARTS: [Class; 22] = [
     MINUS, PLUS, NOT, TILDE, NUMBER, ZERO, TRUE, FALSE, NAME, BOOL, BOOL2, BOOL3, BOOL4, INT, INT2,
     INT3, INT4, UINT, UINT2, UINT3, UINT4, LEFT_PAREN,
 ];
 
-const CONSTANT_STARTS: [u32; 8] = [MINUS, PLUS, NOT, TILDE, NUMBER, ZERO, NAME, LEFT_PAREN];
+const CONSTANT_STARTS: [Class; 8] = [MINUS, PLUS, NOT, TILDE, NUMBER, ZERO, NAME, LEFT_PAREN];
 
-const ARGUMENT_STARTS: [u32; 9] = [
+const ARGUMENT_STARTS: [Class; 9] = [
     MINUS, PLUS, NOT, TILDE, NUMBER, ZERO, TEXT, NAME, LEFT_PAREN,
 ];
 
 /// An expression, one that is a `const` outside of attributes, or an argument of an attribute.
 #[derive(Clone, Copy, Debug, PartialEq, Eq)]
-pub enum Kind {
+pub enum ExprKind {
     Full,
     Constant,
     Argument,
@@ -41,15 +43,15 @@ pub(crate) enum Nested {
     Operand,
 }
 
-impl Kind {
+impl ExprKind {
     /// The classes with which it begins.
-    pub fn starts(self) -> &'static [u32]
-        ensures { result.now ≡ reads.starts (kind_of self) }
+    pub fn starts(self) -> &'static [Class]
+        ensures { numbers result.now ≡ reads.starts (kind_of self) }
     {
         match self {
-            Kind::Full => &STARTS,
-            Kind::Constant => &CONSTANT_STARTS,
-            Kind::Argument => &ARGUMENT_STARTS,
+            ExprKind::Full => &STARTS,
+            ExprKind::Constant => &CONSTANT_STARTS,
+            ExprKind::Argument => &ARGUMENT_STARTS,
         }
     }
 }

@@ -10,6 +10,6 @@ mod operators;
 mod postfix;
 mod primes;
 
-pub use kind::{Kind, VALUE_TYPES};
+pub use kind::{ExprKind, VALUE_TYPES};
 pub use nesting::expr;
 pub use operators::value_type;

@@ -1,11 +1,11 @@
 //! Expressions.
 ghost use Rattle.wg_tree.specs.ReadsExpr as reads;
-ghost use Rattle.wg_cursor.specs.Gives.{Gives};
+ghost use Rattle.wg_cursor.specs.IsReading.{IsReading};
 ghost use Rattle.wg_expressions.specs.Kinds.{kind_of};
 ghost use Rattle.wg_expressions.specs.Rooms.{inside, nested_of};
 
 use crate::inner::Inner;
-use crate::kind::{Kind, Nested};
+use crate::kind::{ExprKind, Nested};
 use std::alloc::Global;
 use wg_cursor::{Cursor, Halt};
 use wg_tree::Expr;
@@ -14,11 +14,11 @@ use wg_tree::Expr;
 fn nested(
     alloc: Global,
     cursor: &mut Cursor<'_>,
-    kind: Kind,
+    kind: ExprKind,
     room: u32,
     part: Nested,
 ) -> Result<Expr, Halt>
-    ensures { Gives ((inside kind room).read (nested_of part) cursor.old) result cursor.new }
+    ensures { IsReading ((inside kind room).read (nested_of part) cursor.old) result cursor.new }
 {
     if room == 0 {
         return Err(cursor.too_deep(kind.starts()));
@@ -36,8 +36,8 @@ fn nested(
 }
 
 /// Reads an expression with room for this much nesting.
-pub fn expr(alloc: Global, cursor: &mut Cursor<'_>, kind: Kind, room: u32) -> Result<Expr, Halt>
-    ensures { Gives (reads.expr_read_at (kind_of kind) room cursor.old) result cursor.new }
+pub fn expr(alloc: Global, cursor: &mut Cursor<'_>, kind: ExprKind, room: u32) -> Result<Expr, Halt>
+    ensures { IsReading (reads.expr_read_at (kind_of kind) room cursor.old) result cursor.new }
 {
     Inner {
         alloc,

@@ -1,12 +1,12 @@
 //! Operands, with what stands before them.
 ghost use Rattle.wg_tree.specs.GrammarExpr as grammar;
 ghost use Rattle.wg_tree.specs.ReadsExpr as reads;
-ghost use Rattle.wg_cursor.specs.Gives.{Gives};
+ghost use Rattle.wg_cursor.specs.IsReading.{IsReading};
 ghost use Rattle.wg_expressions.specs.Kinds.{kind_of};
-ghost use Rattle.wg_expressions.specs.Rooms.{Nests, inside, read, unprefixed};
+ghost use Rattle.wg_expressions.specs.Rooms.{Nests, inside, read};
 
 use crate::inner::Inner;
-use crate::kind::{Kind, Nested, PREFIX_OPERATORS, VALUE_TYPES};
+use crate::kind::{ExprKind, Nested, PREFIX_OPERATORS, VALUE_TYPES};
 use crate::operators::{prefix_operator, value_type};
 use sqlite_items::Boxed;
 use std::alloc::Global;
@@ -14,10 +14,10 @@ use wg_cursor::symbols::{LEFT_PAREN, NAME, RIGHT_PAREN, ZERO};
 use wg_cursor::{Cursor, Halt};
 use wg_tree::Expr;
 
-impl<F: Fn(Global, &mut Cursor<'_>, Kind, u32, Nested) -> Result<Expr, Halt>> Inner<F> {
+impl<F: Fn(Global, &mut Cursor<'_>, ExprKind, u32, Nested) -> Result<Expr, Halt>> Inner<F> {
     fn prefixed(&self, cursor: &mut Cursor<'_>) -> Result<Expr, Halt>
         requires { Nests self.now.room (F.pre self.now.nested) (F.post self.now.nested) }
-        ensures { Gives (read self.now.kind self.now.room grammar.prefixed cursor.old) result cursor.new }
+        ensures { IsReading (read self.now.kind self.now.room grammar.prefixed cursor.old) result cursor.new }
     {
         let token = cursor.take(&PREFIX_OPERATORS)?;
         let operand = self.operand(cursor)?;
@@ -31,7 +31,7 @@ impl<F: Fn(Global, &mut Cursor<'_>, Kind, u32, Nested) -> Result<Expr, Halt>> In
 
     fn cast(&self, cursor: &mut Cursor<'_>) -> Result<Expr, Halt>
         requires { Nests self.now.room (F.pre self.now.nested) (F.post self.now.nested) }
-        ensures { Gives (read self.now.kind self.now.room grammar.cast cursor.old) result cursor.new }
+        ensures { IsReading (read self.now.kind self.now.room grammar.cast cursor.old) result cursor.new }
     {
         let place = self.mark(cursor, LEFT_PAREN)?;
         let token = self.take(cursor, &VALUE_TYPES)?;
@@ -46,7 +46,7 @@ impl<F: Fn(Global, &mut Cursor<'_>, Kind, u32, Nested) -> Result<Expr, Halt>> In
     }
 
     fn zeros(&self, cursor: &mut Cursor<'_>) -> Result<Expr, Halt>
-        ensures { Gives (read self.now.kind self.now.room grammar.zeros cursor.old) result cursor.new }
+        ensures { IsReading (read self.now.kind self.now.room grammar.zero_struct cursor.old) result cursor.new }
     {
         let place = self.mark(cursor, LEFT_PAREN)?;
         let of = self.name(cursor)?;
@@ -57,18 +57,18 @@ impl<F: Fn(Global, &mut Cursor<'_>, Kind, u32, Nested) -> Result<Expr, Halt>> In
 
     fn unprefixed(&self, cursor: &mut Cursor<'_>) -> Result<Expr, Halt>
         requires { Nests self.now.room (F.pre self.now.nested) (F.post self.now.nested) }
-        ensures { Gives (read self.now.kind self.now.room (unprefixed self.now.kind) cursor.old) result cursor.new }
+        ensures { IsReading (read self.now.kind self.now.room (grammar.unprefixed (kind_of self.now.kind)) cursor.old) result cursor.new }
     {
         match self.kind {
-            Kind::Full => self.postfix(cursor),
-            Kind::Constant => self.constant_prime(cursor),
-            Kind::Argument => self.argument_prime(cursor),
+            ExprKind::Full => self.postfix(cursor),
+            ExprKind::Constant => self.constant_prime(cursor),
+            ExprKind::Argument => self.argument_prime(cursor),
         }
     }
 
     fn plain_operand(&self, cursor: &mut Cursor<'_>) -> Result<Expr, Halt>
         requires { Nests self.now.room (F.pre self.now.nested) (F.post self.now.nested) }
-        ensures { Gives (read self.now.kind self.now.room (grammar.plain_operand (kind_of self.now.kind)) cursor.old) result cursor.new }
+        ensures { IsReading (read self.now.kind self.now.room (grammar.plain_operand (kind_of self.now.kind)) cursor.old) result cursor.new }
     {
         if cursor.sees(&PREFIX_OPERATORS) {
             self.prefixed(cursor)
@@ -79,10 +79,10 @@ impl<F: Fn(Global, &mut Cursor<'_>, Kind, u32, Nested) -> Result<Expr, Halt>> In
 
     pub(crate) fn unary(&self, cursor: &mut Cursor<'_>) -> Result<Expr, Halt>
         requires { Nests self.now.room (F.pre self.now.nested) (F.post self.now.nested) }
-        ensures { Gives (reads.read_unary (kind_of self.now.kind) (inside self.now.kind self.now.room) cursor.old) result cursor.new }
+        ensures { IsReading (reads.read_unary (kind_of self.now.kind) (inside self.now.kind self.now.room) cursor.old) result cursor.new }
     {
         match self.kind {
-            Kind::Full => {
+            ExprKind::Full => {
                 if cursor.begins(&[&[LEFT_PAREN], &VALUE_TYPES, &[RIGHT_PAREN]]) {
                     self.cast(cursor)
                 } else if cursor.begins(&[&[LEFT_PAREN], &[NAME], &[RIGHT_PAREN], &[ZERO]]) {
@@ -91,7 +91,7 @@ impl<F: Fn(Global, &mut Cursor<'_>, Kind, u32, Nested) -> Result<Expr, Halt>> In
                     self.plain_operand(cursor)
                 }
             }
-            Kind::Constant | Kind::Argument => self.plain_operand(cursor),
+            ExprKind::Constant | ExprKind::Argument => self.plain_operand(cursor),
         }
     }
 }

@@ -1,11 +1,11 @@
 //! The primes of expressions.
 ghost use Rattle.std.specs.Prelude.{◌≡◌, [], ◌∷◌, IfOk};
 ghost use Rattle.wg_tree.specs.GrammarExpr as grammar;
-ghost use Rattle.wg_cursor.specs.Gives.{Gives};
+ghost use Rattle.wg_cursor.specs.IsReading.{IsReading};
 ghost use Rattle.wg_expressions.specs.Rooms.{Nests, read};
 
 use crate::inner::Inner;
-use crate::kind::{Kind, Nested, VALUE_TYPES};
+use crate::kind::{ExprKind, Nested, VALUE_TYPES};
 use crate::operators::value_type;
 use sqlite_items::Boxed;
 use std::alloc::{AllocError, Global};
@@ -17,7 +17,7 @@ use wg_words::{Items, Name, TryCopy};
 
 /// The bytes of a string.
 fn bytes_of(alloc: Global, token: &Token) -> Result<Name, AllocError>
-    ensures { IfOk result (λ bytes. bytes ≡ grammar.bytes_of token.now.kind) }
+    ensures { IfOk result (λ bytes. bytes ≡ grammar.text_bytes token.now.kind) }
 {
     match &token.kind {
         TokenKind::Text { bytes } => bytes.copy(alloc),
@@ -25,9 +25,9 @@ fn bytes_of(alloc: Global, token: &Token) -> Result<Name, AllocError>
     }
 }
 
-impl<F: Fn(Global, &mut Cursor<'_>, Kind, u32, Nested) -> Result<Expr, Halt>> Inner<F> {
+impl<F: Fn(Global, &mut Cursor<'_>, ExprKind, u32, Nested) -> Result<Expr, Halt>> Inner<F> {
     fn number(&self, cursor: &mut Cursor<'_>) -> Result<Expr, Halt>
-        ensures { Gives (read self.now.kind self.now.room grammar.numbers cursor.old) result cursor.new }
+        ensures { IsReading (read self.now.kind self.now.room grammar.numbers cursor.old) result cursor.new }
     {
         let token = cursor.take(&[NUMBER, ZERO])?;
         let place = token.place;
@@ -46,7 +46,7 @@ impl<F: Fn(Global, &mut Cursor<'_>, Kind, u32, Nested) -> Result<Expr, Halt>> In
     }
 
     fn text(&self, cursor: &mut Cursor<'_>) -> Result<Expr, Halt>
-        ensures { Gives (read self.now.kind self.now.room grammar.texts cursor.old) result cursor.new }
+        ensures { IsReading (read self.now.kind self.now.room grammar.texts cursor.old) result cursor.new }
     {
         let token = cursor.take(&[TEXT])?;
         let place = token.place;
@@ -55,7 +55,7 @@ impl<F: Fn(Global, &mut Cursor<'_>, Kind, u32, Nested) -> Result<Expr, Halt>> In
     }
 
     fn truth(&self, cursor: &mut Cursor<'_>) -> Result<Expr, Halt>
-        ensures { Gives (read self.now.kind self.now.room grammar.truths cursor.old) result cursor.new }
+        ensures { IsReading (read self.now.kind self.now.room grammar.truths cursor.old) result cursor.new }
     {
         let value = cursor.sees(&[TRUE]);
         let place = cursor.take(&[TRUE, FALSE])?.place;
@@ -63,7 +63,7 @@ impl<F: Fn(Global, &mut Cursor<'_>, Kind, u32, Nested) -> Result<Expr, Halt>> In
     }
 
     fn name_only(&self, cursor: &mut Cursor<'_>) -> Result<Expr, Halt>
-        ensures { Gives (read self.now.kind self.now.room grammar.name_only cursor.old) result cursor.new }
+        ensures { IsReading (read self.now.kind self.now.room grammar.name_only cursor.old) result cursor.new }
     {
         let name = cursor.name(self.alloc)?;
         Ok(Expr::Name { name })
@@ -71,7 +71,7 @@ impl<F: Fn(Global, &mut Cursor<'_>, Kind, u32, Nested) -> Result<Expr, Halt>> In
 
     fn name_or_call(&self, cursor: &mut Cursor<'_>) -> Result<Expr, Halt>
         requires { Nests self.now.room (F.pre self.now.nested) (F.post self.now.nested) }
-        ensures { Gives (read self.now.kind self.now.room grammar.name_or_call cursor.old) result cursor.new }
+        ensures { IsReading (read self.now.kind self.now.room grammar.name_or_call cursor.old) result cursor.new }
     {
         let name = cursor.name(self.alloc)?;
         match self.optional_arguments(cursor)? {
@@ -82,7 +82,7 @@ impl<F: Fn(Global, &mut Cursor<'_>, Kind, u32, Nested) -> Result<Expr, Halt>> In
 
     fn construct(&self, cursor: &mut Cursor<'_>) -> Result<Expr, Halt>
         requires { Nests self.now.room (F.pre self.now.nested) (F.post self.now.nested) }
-        ensures { Gives (read self.now.kind self.now.room grammar.construct cursor.old) result cursor.new }
+        ensures { IsReading (read self.now.kind self.now.room grammar.construct cursor.old) result cursor.new }
     {
         let token = cursor.take(&VALUE_TYPES)?;
         self.mark(cursor, LEFT_PAREN)?;
@@ -97,7 +97,7 @@ impl<F: Fn(Global, &mut Cursor<'_>, Kind, u32, Nested) -> Result<Expr, Halt>> In
 
     fn bracket(&self, cursor: &mut Cursor<'_>) -> Result<Expr, Halt>
         requires { Nests self.now.room (F.pre self.now.nested) (F.post self.now.nested) }
-        ensures { Gives (read self.now.kind self.now.room grammar.bracket cursor.old) result cursor.new }
+        ensures { IsReading (read self.now.kind self.now.room grammar.bracket cursor.old) result cursor.new }
     {
         let place = self.mark(cursor, LEFT_PAREN)?;
         let inner = self.whole(cursor)?;
@@ -108,7 +108,7 @@ impl<F: Fn(Global, &mut Cursor<'_>, Kind, u32, Nested) -> Result<Expr, Halt>> In
 
     pub(crate) fn full_prime(&self, cursor: &mut Cursor<'_>) -> Result<Expr, Halt>
         requires { Nests self.now.room (F.pre self.now.nested) (F.post self.now.nested) }
-        ensures { Gives (read self.now.kind self.now.room (grammar.prime grammar.full) cursor.old) result cursor.new }
+        ensures { IsReading (read self.now.kind self.now.room (grammar.prime grammar.full) cursor.old) result cursor.new }
     {
         if cursor.sees(&[NUMBER, ZERO]) {
             self.number(cursor)
@@ -125,7 +125,7 @@ impl<F: Fn(Global, &mut Cursor<'_>, Kind, u32, Nested) -> Result<Expr, Halt>> In
 
     pub(crate) fn constant_prime(&self, cursor: &mut Cursor<'_>) -> Result<Expr, Halt>
         requires { Nests self.now.room (F.pre self.now.nested) (F.post self.now.nested) }
-        ensures { Gives (read self.now.kind self.now.room (grammar.prime grammar.constant) cursor.old) result cursor.new }
+        ensures { IsReading (read self.now.kind self.now.room (grammar.prime grammar.constant) cursor.old) result cursor.new }
     {
         if cursor.sees(&[NUMBER, ZERO]) {
             self.number(cursor)
@@ -138,7 +138,7 @@ impl<F: Fn(Global, &mut Cursor<'_>, Kind, u32, Nested) -> Result<Expr, Halt>> In
 
     pub(crate) fn argument_prime(&self, cursor: &mut Cursor<'_>) -> Result<Expr, Halt>
         requires { Nests self.now.room (F.pre self.now.nested) (F.post self.now.nested) }
-        ensures { Gives (read self.now.kind self.now.room (grammar.prime grammar.argument) cursor.old) result cursor.new }
+        ensures { IsReading (read self.now.kind self.now.room (grammar.prime grammar.argument) cursor.old) result cursor.new }
     {
         if cursor.sees(&[NUMBER, ZERO]) {
             self.number(cursor)

@@ -1,7 +1,7 @@
 -- What is read is spelled so, and what was read before a fault can be completed.
 use Rattle.std.proofs.Common.{◌≡◌, ℕ, zero, suc, Bool, true, false, List, [], ◌∷◌, ◌++◌, length, refl, sym, ◌∙◌, ap, subst, append_assoc, if◌then◌else◌}
 use Rattle.std.proofs.lemmas.List.{map-append}
-use Rattle.wg_grammar.specs.Reading.{Outcome, Got, Wrong, Deep, Reader, and_then, ◌>>=◌, pure, sees, take_if, too_deep, many_from, many}
+use Rattle.wg_grammar.specs.Reading.{Reading, Got, Wrong, Deep, Reader, read_on, ◌>>=◌, pure, sees, take_if, too_deep, many_from, many}
 use Rattle.wg_grammar.specs.Spans.{Span, Seq, None_of, Leaf, Many}
 use Rattle.wg_grammar.specs.Depths.{plain, Shallow}
 
@@ -31,7 +31,7 @@ module _ (ok : Type 0) {D : Type 0} (Within : D → Type 0) where
   shallow-append [] b h k = k
   shallow-append (x ∷ a) b h k = (h.0, shallow-append a b h.1 k)
 
-  abbrev pub Says : {T X : Type 0} → (X → Span (T × D)) → List T → Outcome T X → Type 0
+  abbrev pub Says : {T X : Type 0} → (X → Span (T × D)) → List T → Reading T X → Type 0
   Says {T = T} R ts (Got x b) = (front : List (T × D)) × (ts ≡ plain front ++ b) × Shallow Within front × Words R x front
   Says {T = T} R ts (Wrong b) = (front : List (T × D)) × (ts ≡ plain front ++ b) × Shallow Within front × (ok → Opens R front)
   Says {T = T} R ts (Deep b) = (front : List (T × D)) × (ts ≡ plain front ++ b) × Shallow Within front × (t : T) × (d : D) × (rest : List T) × (b ≡ t ∷ rest) × (Within d → ⊥) × (ok → Opens R (front ++ ((t, d) ∷ [])))
@@ -42,17 +42,17 @@ module _ (ok : Type 0) {D : Type 0} (Within : D → Type 0) where
     pub opens : ok → Opens R []
 
   module _ {T X Y : Type 0} (P : X → Span (T × D)) (Q : X → Y → Span (T × D)) where
-    second : (ts : List T) (front : List (T × D)) (m : List T) (x : X) → ts ≡ plain front ++ m → Shallow Within front → Words P x front → (o : Outcome T Y) → Says (Q x) m o → Says (Seq P Q) ts o
+    second : (ts : List T) (front : List (T × D)) (m : List T) (x : X) → ts ≡ plain front ++ m → Shallow Within front → Words P x front → (o : Reading T Y) → Says (Q x) m o → Says (Seq P Q) ts o
     second ts front m x e l w (Got y b) h = (front ++ h.0, e ∙ ap (λ z. plain front ++ z) h.1 ∙ sym (plain-append front h.0 b), shallow-append front h.0 l h.2, λ s. (x, h.0 ++ s, subst (λ z. P x z (h.0 ++ s)) (sym (append_assoc front h.0 s)) (w (h.0 ++ s)), h.3 s))
     second ts front m x e l w (Wrong b) h = (front ++ h.0, e ∙ ap (λ z. plain front ++ z) h.1 ∙ sym (plain-append front h.0 b), shallow-append front h.0 l h.2, λ k. then_opens P Q x front h.0 w (h.3 k))
     second ts front m x e l w (Deep b) h = (front ++ h.0, e ∙ ap (λ z. plain front ++ z) h.1 ∙ sym (plain-append front h.0 b), shallow-append front h.0 l h.2, h.3, h.4, h.5, h.6, h.7, λ k. subst (λ z. Opens (Seq P Q) z) (sym (append_assoc front h.0 ((h.3, h.4) ∷ []))) (then_opens P Q x front (h.0 ++ ((h.3, h.4) ∷ [])) w (h.8 k)))
 
-    pub says_then : (ts : List T) (f : X → Reader T Y) (r : Outcome T X) → Says P ts r → ((x : X) → Fine (f x) (Q x)) → Says (Seq P Q) ts (and_then r f)
+    pub says_then : (ts : List T) (f : X → Reader T Y) (r : Reading T X) → Says P ts r → ((x : X) → Fine (f x) (Q x)) → Says (Seq P Q) ts (read_on r f)
     says_then ts f (Got x m) k h = second ts k.0 m x k.1 k.2 k.3 (f x m) ((h x).says m)
     says_then ts f (Wrong b) k h = (k.0, k.1, k.2, λ z. opens_then P Q k.0 (k.3 z) (λ x. (h x).opens z))
     says_then ts f (Deep b) k h = (k.0, k.1, k.2, k.3, k.4, k.5, k.6, k.7, λ z. opens_then P Q (k.0 ++ ((k.3, k.4) ∷ [])) (k.8 z) (λ x. (h x).opens z))
 
-  pub says_as : {T X : Type 0} (P Q : X → Span (T × D)) → ((x : X) (i r : List (T × D)) → P x i r → Q x i r) → (ts : List T) (o : Outcome T X) → Says P ts o → Says Q ts o
+  pub says_as : {T X : Type 0} (P Q : X → Span (T × D)) → ((x : X) (i r : List (T × D)) → P x i r → Q x i r) → (ts : List T) (o : Reading T X) → Says P ts o → Says Q ts o
   says_as P Q h ts (Got x b) k = (k.0, k.1, k.2, λ s. h x _ s (k.3 s))
   says_as P Q h ts (Wrong b) k = (k.0, k.1, k.2, λ z. let o = k.3 z in (o.0, o.1, λ s. h o.1 _ s (o.2 s)))
   says_as P Q h ts (Deep b) k = (k.0, k.1, k.2, k.3, k.4, k.5, k.6, k.7, λ z. let o = k.8 z in (o.0, o.1, λ s. h o.1 _ s (o.2 s)))

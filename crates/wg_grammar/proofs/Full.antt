@@ -1,6 +1,6 @@
 -- What is spelled is read, whatever follows that the reader would not take too.
 use Rattle.std.proofs.Common.{inl, inr, ◌≡◌, ℕ, zero, suc, ◌≤◌, Bool, true, false, List, [], ◌∷◌, length, refl, sym, ◌∙◌, ap, subst, arith, if◌then◌else◌}
-use Rattle.wg_grammar.specs.Reading.{by_next, Got, Wrong, Reader, and_then, ◌>>=◌, pure, sees, take_if, many_from, many}
+use Rattle.wg_grammar.specs.Reading.{by_next, Got, Wrong, Reader, read_on, ◌>>=◌, pure, sees, take_if, many_from, many}
 use Rattle.wg_grammar.specs.Spans.{Span, Seq, None_of, Leaf, Many, ◌or◌}
 use Rattle.wg_grammar.specs.Depths.{plain}
 use Rattle.wg_grammar.proofs.Kept.{Eats}
@@ -18,7 +18,7 @@ full_pure x = record { reads = λ y i r h f. rw (h.0, h.1) refl }
 
 pub full_bind : {T D X Y : Type 0} {p : Reader T X} {f : X → Reader T Y} {P : X → Span (T × D)} {Q : X → Y → Span (T × D)} {FP : X → List T → Type 0} {F : Y → List T → Type 0}
     → Full p P FP → ((x : X) → Full (f x) (Q x) F) → ((x : X) (y : Y) (m r : List (T × D)) → Q x y m r → F y (plain r) → FP x (plain m)) → Full (p >>= f) (Seq P Q) F
-full_bind {f = f} a b c = record { reads = λ y i r h k. ap (λ z. and_then z f) (a.reads h.0 i h.1 h.2 (c h.0 y h.1 r h.3 k)) ∙ (b h.0).reads y h.1 r h.3 k }
+full_bind {f = f} a b c = record { reads = λ y i r h k. ap (λ z. read_on z f) (a.reads h.0 i h.1 h.2 (c h.0 y h.1 r h.3 k)) ∙ (b h.0).reads y h.1 r h.3 k }
 
 pub full_take : {T D X : Type 0} {d : D} (test : T → Bool) (value : T → X) {F : X → List T → Type 0} → Full (take_if test value) (Leaf test value d) F
 full_take test value = record { reads = λ x i r h k. ap (λ z. take_if test value (plain z)) h.3 ∙ ap (λ z. if z then Got (value h.0) (plain r) else Wrong (h.0 ∷ plain r)) h.1 ∙ ap (λ z. Got z (plain r)) (sym h.2) }

@@ -1,6 +1,6 @@
 -- What a reader gives depends on what it took and on the token after it alone.
 use Rattle.std.proofs.Common.{◌≡◌, ℕ, zero, suc, ◌<◌, ◌≤◌, Bool, true, false, List, [], ◌∷◌, ◌++◌, length, Option, Some, None, refl, sym, ◌∙◌, ap, subst, append_assoc, length-append, arith, if◌then◌else◌}
-use Rattle.wg_grammar.specs.Reading.{Outcome, Got, Wrong, Deep, Reader, and_then, ◌>>=◌, pure, sees, take_if, too_deep, by_next, many_from, many}
+use Rattle.wg_grammar.specs.Reading.{Reading, Got, Wrong, Deep, Reader, read_on, ◌>>=◌, pure, sees, take_if, too_deep, by_next, many_from, many}
 
 abbrev pub head : {T : Type 0} → List T → Option T
 head [] = None
@@ -21,7 +21,7 @@ same_sees test (t ∷ a) [] h = absurd (cc)
 same_sees test (t ∷ a) (u ∷ b) h = let same : t ≡ u = cc in ap test same
 
 -- R says what another reader gives
-abbrev pub Kept : {T X : Type 0} → (List T → Outcome T X → Type 0) → List T → Outcome T X → Type 0
+abbrev pub Kept : {T X : Type 0} → (List T → Reading T X → Type 0) → List T → Reading T X → Type 0
 Kept {T = T} R ts (Got x b) = (front : List T) × (ts ≡ front ++ b) × ((b' : List T) → SameHead b b' → R (front ++ b') (Got x b'))
 Kept {T = T} R ts (Wrong b) = (front : List T) × (ts ≡ front ++ b) × ((b' : List T) → SameHead b b' → R (front ++ b') (Wrong b'))
 Kept {T = T} R ts (Deep b) = (front : List T) × (ts ≡ front ++ b)
@@ -29,21 +29,21 @@ Kept {T = T} R ts (Deep b) = (front : List T) × (ts ≡ front ++ b)
 pub record Persists {T X : Type 0} (p q : Reader T X) : Type 0 where
   pub at : (ts : List T) → Kept (λ i o. q i ≡ o) ts (p ts)
 
-pub kept_as : {T X : Type 0} (R S : List T → Outcome T X → Type 0) (ts : List T) (o : Outcome T X) → ((i : List T) (o : Outcome T X) → R i o → S i o) → Kept R ts o → Kept S ts o
+pub kept_as : {T X : Type 0} (R S : List T → Reading T X → Type 0) (ts : List T) (o : Reading T X) → ((i : List T) (o : Reading T X) → R i o → S i o) → Kept R ts o → Kept S ts o
 kept_as R S ts (Got x b) h q = (q.0, q.1, λ b' s. h _ _ (q.2 b' s))
 kept_as R S ts (Wrong b) h q = (q.0, q.1, λ b' s. h _ _ (q.2 b' s))
 kept_as R S ts (Deep b) h q = q
 
 -- the first token stays
-pub headed : {T X : Type 0} (R : List T → Outcome T X → Type 0) (ts : List T) (o : Outcome T X) → Kept (λ i o. SameHead ts i → R i o) ts o → Kept R ts o
+pub headed : {T X : Type 0} (R : List T → Reading T X → Type 0) (ts : List T) (o : Reading T X) → Kept (λ i o. SameHead ts i → R i o) ts o → Kept R ts o
 headed R ts (Got x b) k = (k.0, k.1, λ b' s. k.2 b' s (ap head k.1 ∙ same_front k.0 b b' s))
 headed R ts (Wrong b) k = (k.0, k.1, λ b' s. k.2 b' s (ap head k.1 ∙ same_front k.0 b b' s))
 headed R ts (Deep b) k = k
 
-module _ {T X Y : Type 0} (R : List T → Outcome T X → Type 0) (S : X → List T → Outcome T Y → Type 0) (Q : List T → Outcome T Y → Type 0)
-    (join : (front m : List T) (x : X) (o : Outcome T Y) → R (front ++ m) (Got x m) → S x m o → Q (front ++ m) o)
+module _ {T X Y : Type 0} (R : List T → Reading T X → Type 0) (S : X → List T → Reading T Y → Type 0) (Q : List T → Reading T Y → Type 0)
+    (join : (front m : List T) (x : X) (o : Reading T Y) → R (front ++ m) (Got x m) → S x m o → Q (front ++ m) o)
     (wrong : (i b : List T) → R i (Wrong b) → Q i (Wrong b)) where
-  after : (ts front m : List T) (x : X) (e : ts ≡ front ++ m) (k : (b' : List T) → SameHead m b' → R (front ++ b') (Got x b')) (o : Outcome T Y) → Kept (S x) m o → Kept Q ts o
+  after : (ts front m : List T) (x : X) (e : ts ≡ front ++ m) (k : (b' : List T) → SameHead m b' → R (front ++ b') (Got x b')) (o : Reading T Y) → Kept (S x) m o → Kept Q ts o
   after ts front m x e k (Got y b) h = (
     front ++ h.0,
     e ∙ ap (λ z. front ++ z) h.1 ∙ sym (append_assoc front h.0 b),
@@ -60,8 +60,8 @@ module _ {T X Y : Type 0} (R : List T → Outcome T X → Type 0) (S : X → Lis
   )
   after ts front m x e k (Deep b) h = (front ++ h.0, e ∙ ap (λ z. front ++ z) h.1 ∙ sym (append_assoc front h.0 b))
 
-  pub kept_then : (ts : List T) (f : X → Reader T Y) (r : Outcome T X) → Kept R ts r
-      → ((x : X) (m : List T) → r ≡ Got x m → Kept (S x) m (f x m)) → Kept Q ts (and_then r f)
+  pub kept_then : (ts : List T) (f : X → Reader T Y) (r : Reading T X) → Kept R ts r
+      → ((x : X) (m : List T) → r ≡ Got x m → Kept (S x) m (f x m)) → Kept Q ts (read_on r f)
   kept_then ts f (Got x m) k h = after ts k.0 m x k.1 k.2 (f x m) (h x m refl)
   kept_then ts f (Wrong b) k h = (k.0, k.1, λ b' s. wrong (k.0 ++ b') b' (k.2 b' s))
   kept_then ts f (Deep b) k h = k
@@ -72,8 +72,8 @@ persists_pure x = record { at = λ ts. ([], refl, λ b' s. refl) }
 pub persists_bind : {T X Y : Type 0} {p q : Reader T X} {f g : X → Reader T Y} → Persists p q → ((x : X) → Persists (f x) (g x)) → Persists (p >>= f) (q >>= g)
 persists_bind {T = T} {Y = Y} {p = p} {q = q} {f = f} {g = g} h k = record {
   at = λ ts.
-      kept_then (λ i o. q i ≡ o) (λ x i o. g x i ≡ o) (λ i o. and_then (q i) g ≡ o)
-      (λ front m x o a b. ap (λ z. and_then z g) a ∙ b) (λ i b a. ap (λ z. and_then z g) a) ts f (p ts) (h.at ts) (λ x m e. (k x).at m);
+      kept_then (λ i o. q i ≡ o) (λ x i o. g x i ≡ o) (λ i o. read_on (q i) g ≡ o)
+      (λ front m x o a b. ap (λ z. read_on z g) a ∙ b) (λ i b a. ap (λ z. read_on z g) a) ts f (p ts) (h.at ts) (λ x m e. (k x).at m);
 }
 
 pub persists_next : {T X : Type 0} (test : T → Bool) {p q p' q' : Reader T X} → Persists p p' → Persists q q' → Persists (by_next test p q) (by_next test p' q')
@@ -110,7 +110,7 @@ persists_deep {T = T} {X = X} test {q = q} refuses = record { at = λ ts. go ts 
 pub record Eats {T X : Type 0} (p : Reader T X) : Type 0 where
   pub at : (ts b : List T) (x : X) → p ts ≡ Got x b → length b < length ts
 
-pub no_longer : {T X : Type 0} (R : List T → Outcome T X → Type 0) (ts b : List T) (x : X) (o : Outcome T X) → o ≡ Got x b → Kept R ts o → length b ≤ length ts
+pub no_longer : {T X : Type 0} (R : List T → Reading T X → Type 0) (ts b : List T) (x : X) (o : Reading T X) → o ≡ Got x b → Kept R ts o → length b ≤ length ts
 no_longer R ts b x (Got y c) e k = let same : b ≡ c = cc in rw same (omega (arith, ap length k.1, length-append k.0 c))
 no_longer R ts b x (Wrong c) e k = absurd (cc)
 no_longer R ts b x (Deep c) e k = absurd (cc)
@@ -123,7 +123,7 @@ pub falls : {T X : Type 0} {p q : Reader T X} → Persists p q → Falls p
 falls {p = p} {q = q} h = record { at = λ ts b x e. no_longer (λ i o. q i ≡ o) ts b x (p ts) e (h.at ts) }
 
 -- where a bind gives a value, each part gave one
-pub binds : {T X Y : Type 0} (o : Outcome T X) (f : X → Reader T Y) (y : Y) (b : List T) → and_then o f ≡ Got y b → (x : X) × (m : List T) × (o ≡ Got x m) × (f x m ≡ Got y b)
+pub binds : {T X Y : Type 0} (o : Reading T X) (f : X → Reader T Y) (y : Y) (b : List T) → read_on o f ≡ Got y b → (x : X) × (m : List T) × (o ≡ Got x m) × (f x m ≡ Got y b)
 binds (Got x m) f y b e = (x, m, refl, e)
 binds (Wrong m) f y b e = absurd (cc)
 binds (Deep m) f y b e = absurd (cc)
@@ -166,14 +166,14 @@ eats_deep {T = T} {X = X} test = record { at = λ ts b x. go ts b x (sees test t
     go ts b x false e = absurd (cc)
 
 module _ {T X : Type 0} (starts : T → Bool) {item other : Reader T X} (h : Persists item other) (eats : Eats item) where
-  abbrev Again : List T → Outcome T (List X) → Type 0
+  abbrev Again : List T → Reading T (List X) → Type 0
   Again i o = (n : ℕ) → length i ≤ n → many_from starts other n i ≡ o
 
   no_more : (ts b : List T) → sees starts ts ≡ false → SameHead ts b → Again b (Got [] b)
   no_more ts b e s zero le = refl
   no_more ts b e s (suc n) le = ap (λ z. if z then (other >>= λ x. many_from starts other n >>= λ xs. pure (x ∷ xs)) b else Got [] b) (sym (same_sees starts ts b s) ∙ e)
 
-  abbrev Then : X → List T → Outcome T (List X) → Type 0
+  abbrev Then : X → List T → Reading T (List X) → Type 0
   Then x i o = (k : ℕ) → length i ≤ k → (many_from starts other k >>= λ xs. pure (x ∷ xs)) i ≡ o
 
   rest_kept : (n : ℕ) (x : X) (m : List T) → Kept Again m (many_from starts item n m) → Kept (Then x) m ((many_from starts item n >>= λ xs. pure (x ∷ xs)) m)
@@ -181,21 +181,21 @@ module _ {T X : Type 0} (starts : T → Bool) {item other : Reader T X} (h : Per
       (λ front m xs o a b k l2. rw (a k l2) b) (λ i b a k l2. rw (a k l2) refl)
       m (λ xs. pure (x ∷ xs)) (many_from starts item n m) k (λ xs m e. ([], refl, λ b' s. refl))
 
-  abbrev Shorter : List T → Outcome T X → Type 0
+  abbrev Shorter : List T → Reading T X → Type 0
   Shorter i (Got x m) = length m < length i
   Shorter i (Wrong b) = Unit {0}
   Shorter i (Deep b) = Unit {0}
 
-  abbrev Gives : List T → Outcome T X → Type 0
+  abbrev Gives : List T → Reading T X → Type 0
   Gives i o = (other i ≡ o) × Shorter i o
 
-  eaten : (ts : List T) (o : Outcome T X) → item ts ≡ o → Kept (λ i o. other i ≡ o) ts o → Kept Gives ts o
+  eaten : (ts : List T) (o : Reading T X) → item ts ≡ o → Kept (λ i o. other i ≡ o) ts o → Kept Gives ts o
   eaten ts (Got x b) e k = let l = eats.at ts b x e in
       (k.0, k.1, λ b' s. (k.2 b' s, omega (arith, l, ap length k.1, length-append k.0 b, length-append k.0 b')))
   eaten ts (Wrong b) e k = (k.0, k.1, λ b' s. (k.2 b' s, tt))
   eaten ts (Deep b) e k = k
 
-  again_more : (i : List T) (x : X) (m : List T) (o : Outcome T (List X)) → sees starts i ≡ true → other i ≡ Got x m → length m < length i → Then x m o → Again i o
+  again_more : (i : List T) (x : X) (m : List T) (o : Reading T (List X)) → sees starts i ≡ true → other i ≡ Got x m → length m < length i → Then x m o → Again i o
   again_more i x m o e q l k zero le = absurd (omega arith)
   again_more i x m o e q l k (suc n) le = rw (e, q) (k n (omega arith))
 

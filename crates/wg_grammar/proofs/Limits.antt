@@ -1,7 +1,7 @@
 -- What is spelled is read, or reading stops at the first token that is too deep, whatever follows that token.
 use Rattle.std.proofs.Common.{◌≡◌, ℕ, zero, suc, ◌≤◌, Bool, true, false, List, [], ◌∷◌, ◌++◌, length, refl, sym, ◌∙◌, ap, subst, append_assoc, length-append, arith, if◌then◌else◌, inl, inr, ◌⊎◌}
 use Rattle.std.proofs.lemmas.List.{map-append}
-use Rattle.wg_grammar.specs.Reading.{Outcome, Got, Wrong, Deep, Reader, and_then, ◌>>=◌, pure, sees, begins, take_if, too_deep, by_next, look, many_from, many}
+use Rattle.wg_grammar.specs.Reading.{Reading, Got, Wrong, Deep, Reader, read_on, ◌>>=◌, pure, sees, begins_with, take_if, too_deep, by_next, look, many_from, many}
 use Rattle.wg_grammar.specs.Spans.{Span, Seq, None_of, Leaf, Many, ◌or◌}
 use Rattle.wg_grammar.specs.Depths.{plain, Shallow}
 use Rattle.wg_grammar.proofs.Kept.{SameHead, Kept, Persists, Eats, same_front, same_sees}
@@ -19,7 +19,7 @@ cancel (t ∷ a) (u ∷ b) c e = let same : t ≡ u = cc in let rest : a ++ c �
 pub got_stays : {T X : Type 0} {p q : Reader T X} → Persists p q → (front m : List T) (x : X) → p (front ++ m) ≡ Got x m → (b : List T) → SameHead m b → q (front ++ b) ≡ Got x b
 got_stays {T = T} {X = X} {p = p} {q = q} h front m x e b s = go (p (front ++ m)) e (h.at (front ++ m))
   where
-    go : (o : Outcome T X) → o ≡ Got x m → Kept (λ i o. q i ≡ o) (front ++ m) o → q (front ++ b) ≡ Got x b
+    go : (o : Reading T X) → o ≡ Got x m → Kept (λ i o. q i ≡ o) (front ++ m) o → q (front ++ b) ≡ Got x b
     go (Got y c) g k = let same : c ≡ m = cc in let tree : y ≡ x = cc in
         let f : k.0 ≡ front = cancel k.0 front m (ap (λ z. k.0 ++ z) (sym same) ∙ sym k.1) in
         ap (λ z. q (z ++ b)) (sym f) ∙ k.2 b (subst (λ z. SameHead z b) (sym same) s) ∙ ap (λ z. Got z b) tree
@@ -57,7 +57,7 @@ module _ {D : Type 0} (Within : D → Type 0) where
 
   module _ {T X Y : Type 0} (p : Reader T X) (f : X → Reader T Y) (self : Persists p p) where
     then_ends : (x : X) (y : Y) (i m r : List (T × D)) → Through p x i m → Through (f x) y m r ⊎ Stuck (f x) m → Through (p >>= f) y i r ⊎ Stuck (p >>= f) i
-    then_ends x y i m r a (inl b) = inl (a.0 ++ b.0, a.1 ∙ ap (λ z. a.0 ++ z) b.1 ∙ sym (append_assoc a.0 b.0 r), shallow-append ⊥ Within a.0 b.0 a.2 b.2, ap (λ z. and_then z f) a.3 ∙ b.3)
+    then_ends x y i m r a (inl b) = inl (a.0 ++ b.0, a.1 ∙ ap (λ z. a.0 ++ z) b.1 ∙ sym (append_assoc a.0 b.0 r), shallow-append ⊥ Within a.0 b.0 a.2 b.2, ap (λ z. read_on z f) a.3 ∙ b.3)
     then_ends x y i m r a (inr b) = inr (
       a.0 ++ b.0,
       b.1,
@@ -66,7 +66,7 @@ module _ {D : Type 0} (Within : D → Type 0) where
       a.1 ∙ ap (λ z. a.0 ++ z) b.4 ∙ sym (append_assoc a.0 b.0 ((b.1, b.2) ∷ b.3)),
       shallow-append ⊥ Within a.0 b.0 a.2 b.5,
       b.6,
-      λ ts. ap (λ z. and_then (p z) f) (ap (λ z. z ++ (b.1 ∷ ts)) (map-append (λ z. z.0) a.0 b.0) ∙ append_assoc (plain a.0) (plain b.0) (b.1 ∷ ts)) ∙ ap (λ z. and_then z f) (stays ts) ∙ b.7 ts,
+      λ ts. ap (λ z. read_on (p z) f) (ap (λ z. z ++ (b.1 ∷ ts)) (map-append (λ z. z.0) a.0 b.0) ∙ append_assoc (plain a.0) (plain b.0) (b.1 ∷ ts)) ∙ ap (λ z. read_on z f) (stays ts) ∙ b.7 ts,
     )
       where
         split : plain i ≡ plain a.0 ++ plain m
@@ -83,7 +83,7 @@ module _ {D : Type 0} (Within : D → Type 0) where
   limits_bind {p = p} {f = f} self a b c = record {
     ends = λ y i r h k. elim (a.ends h.0 i h.1 h.2 (c h.0 y h.1 r h.3 k)) [
       | inl g ↦ then_ends p f self h.0 y i h.1 r g ((b h.0).ends y h.1 r h.3 k)
-      | inr g ↦ inr (g.0, g.1, g.2, g.3, g.4, g.5, g.6, λ ts. ap (λ z. and_then z f) (g.7 ts))
+      | inr g ↦ inr (g.0, g.1, g.2, g.3, g.4, g.5, g.6, λ ts. ap (λ z. read_on z f) (g.7 ts))
     ];
   }
 
@@ -108,7 +108,7 @@ module _ {D : Type 0} (Within : D → Type 0) where
 
   -- the one or the other, by several tokens, where what follows the token that is too deep does not tell them apart
   pub limits_look : {T X : Type 0} (tests : List (T → Bool)) {p q : Reader T X} {P Q : X → Span (T × D)} {F : X → List T → Type 0} → Limits p P F → Limits q Q F
-      → ((x : X) (i r : List (T × D)) → P x i r → begins tests (plain i) ≡ true) → ((x : X) (i r : List (T × D)) → Q x i r → F x (plain r) → begins tests (plain i) ≡ false)
+      → ((x : X) (i r : List (T × D)) → P x i r → begins_with tests (plain i) ≡ true) → ((x : X) (i r : List (T × D)) → Q x i r → F x (plain r) → begins_with tests (plain i) ≡ false)
       → StopsOn tests p q
       → StopsOff tests p q
       → Limits (look tests p q) (P or Q) F
@@ -120,11 +120,11 @@ module _ {D : Type 0} (Within : D → Type 0) where
       ends : (x : X) (i r : List (T × D)) → (P or Q) x i r → F x (plain r) → Through (look tests p q) x i r ⊎ Stuck (look tests p q) i
       ends x i r (inl u) f = let s = first x i r u in elim (a.ends x i r u f) [
         | inl g ↦ inl (g.0, g.1, g.2, ap (λ z. if z then p (plain i) else q (plain i)) s ∙ g.3)
-        | inr g ↦ inr (g.0, g.1, g.2, g.3, g.4, g.5, g.6, λ ts. on (plain g.0) g.1 (plain g.3) ts (ap (begins tests) (sym (tokens i g.0 g.3 g.1 g.2 g.4)) ∙ s) (g.7 (plain g.3)) (g.7 ts))
+        | inr g ↦ inr (g.0, g.1, g.2, g.3, g.4, g.5, g.6, λ ts. on (plain g.0) g.1 (plain g.3) ts (ap (begins_with tests) (sym (tokens i g.0 g.3 g.1 g.2 g.4)) ∙ s) (g.7 (plain g.3)) (g.7 ts))
       ]
       ends x i r (inr u) f = let s = second x i r u f in elim (b.ends x i r u f) [
         | inl g ↦ inl (g.0, g.1, g.2, ap (λ z. if z then p (plain i) else q (plain i)) s ∙ g.3)
-        | inr g ↦ inr (g.0, g.1, g.2, g.3, g.4, g.5, g.6, λ ts. off (plain g.0) g.1 (plain g.3) ts (ap (begins tests) (sym (tokens i g.0 g.3 g.1 g.2 g.4)) ∙ s) (g.7 (plain g.3)) (g.7 ts))
+        | inr g ↦ inr (g.0, g.1, g.2, g.3, g.4, g.5, g.6, λ ts. off (plain g.0) g.1 (plain g.3) ts (ap (begins_with tests) (sym (tokens i g.0 g.3 g.1 g.2 g.4)) ∙ s) (g.7 (plain g.3)) (g.7 ts))
       ]
 
   module _ {T X : Type 0} (starts : T → Bool) {item : Reader T X} {R : X → Span (T × D)} {FI : List T → Type 0} (self : Persists item item)
@@ -143,7 +143,7 @@ module _ {D : Type 0} (Within : D → Type 0) where
     follows [] m r k f = subst (λ z. FI (plain z)) (sym k) f
     follows (x ∷ xs) m r k f = next (plain m) (first x m k.0 k.1)
 
-    turn : (n : ℕ) (ts m : List T) (x : X) (o : Outcome T (List X)) → length ts ≤ n → sees starts ts ≡ true → item ts ≡ Got x m → ((k : ℕ) → length m ≤ k → many_from starts item k m ≡ o) → many_from starts item n ts ≡ and_then o (λ xs. pure (x ∷ xs))
+    turn : (n : ℕ) (ts m : List T) (x : X) (o : Reading T (List X)) → length ts ≤ n → sees starts ts ≡ true → item ts ≡ Got x m → ((k : ℕ) → length m ≤ k → many_from starts item k m ≡ o) → many_from starts item n ts ≡ read_on o (λ xs. pure (x ∷ xs))
     turn zero [] m x o le s e ih = absurd (cc)
     turn zero (t ∷ ts) m x o le s e ih = absurd (omega arith)
     turn (suc n) ts m x o le s e ih = let l = eats.at ts m x e in let g = ih n (omega arith) in rw (s, e, g) refl

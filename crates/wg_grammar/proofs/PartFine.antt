@@ -2,7 +2,7 @@
 use Rattle.std.proofs.Common.{◌≡◌, ℕ, ◌||◌, not, Bool, true, false, List, [], ◌∷◌, ◌++◌, refl, sym, ◌∙◌, subst, if◌then◌else◌, inl, inr}
 use Rattle.wg_grammar.specs.Spans.{Span, Seq, None_of, Leaf}
 use Rattle.wg_grammar.specs.Reading.{sees}
-use Rattle.wg_grammar.specs.Parts.{Part, give, token, apply, either, list, sub, member, of, first_of, Edges, Readers, Rules, read_token, spell_token, nullable, first, reads, spells, decides}
+use Rattle.wg_grammar.specs.Productions.{Production, give, token, apply, either, list, sub, member, of, first_of, Edges, Readers, Rules, read_token, spell_token, nullable, first, reads, spells, decides}
 use Rattle.wg_grammar.proofs.Sets.{both_true, not_true, member-append}
 use Rattle.wg_grammar.proofs.Fine as f
 use Rattle.wg_grammar.proofs.Fine.{Words, Opens, then_opens, opens_then}
@@ -31,7 +31,7 @@ module _ (ok : Type 0) {T D N : Type 0} {Of : N → Type 0} (class : T → ℕ) 
 
   module _ (roomy : ok → R.room ≡ true) (opens : ok → (n : N) → Opens (R.rule n) []) where
     -- each part spells something
-    pub part_opens : ok → {X : Type 0} (g : Part T N Of X) → decides class edges example g ≡ true → Opens (spells class R g) []
+    pub part_opens : ok → {X : Type 0} (g : Production T N Of X) → decides class edges example g ≡ true → Opens (spells class R g) []
     part_opens z (give x) d = ([], x, λ s. (refl, refl))
     part_opens z (token inner set value) d = token_opens inner R.room R.here R.below set value (roomy z) d
     part_opens z (apply p q) d =
@@ -46,10 +46,10 @@ module _ (ok : Type 0) {T D N : Type 0} {Of : N → Type 0} (class : T → ℕ) 
     part_opens z (sub n) d = opens z n
 
     -- the least that a part spells
-    blank_then : {X Y : Type 0} (p : Part T N Of (X → Y)) (q : Part T N Of X) → ((f : X → Y) × Words (spells class R p) f []) → ((x : X) × Words (spells class R q) x []) → (y : Y) × Words (spells class R (apply p q)) y []
+    blank_then : {X Y : Type 0} (p : Production T N Of (X → Y)) (q : Production T N Of X) → ((f : X → Y) × Words (spells class R p) f []) → ((x : X) × Words (spells class R q) x []) → (y : Y) × Words (spells class R (apply p q)) y []
     blank_then p q a b = (a.0 b.0, λ s. (a.0, s, a.1 s, (b.0, s, b.1 s, (refl, refl))))
 
-    blank : {X : Type 0} (g : Part T N Of X) → decides class edges example g ≡ true → nullable g ≡ true → (x : X) × Words (spells class R g) x []
+    blank : {X : Type 0} (g : Production T N Of X) → decides class edges example g ≡ true → nullable g ≡ true → (x : X) × Words (spells class R g) x []
     blank (give x) d n = (x, λ s. (refl, refl))
     blank (token inner set value) d n = absurd (cc)
     blank (apply p q) d n =
@@ -77,7 +77,7 @@ module _ (ok : Type 0) {T D N : Type 0} {Of : N → Type 0} (class : T → ℕ) 
       token_starts true true set value t e d = (R.below, below, λ z. leaf_starts (of class set) value R.below t d)
       token_starts true false set value t e d = (R.below, below, λ z. absurd (let k = e z in cc))
 
-      second_starts : {X Y : Type 0} (p : Part T N Of (X → Y)) (q : Part T N Of X) (t : T) (v : Bool) → nullable p ≡ v → decides class edges example p ≡ true → (member (class t) (first edges q) ≡ true → Started (spells class R q) t)
+      second_starts : {X Y : Type 0} (p : Production T N Of (X → Y)) (q : Production T N Of X) (t : T) (v : Bool) → nullable p ≡ v → decides class edges example p ≡ true → (member (class t) (first edges q) ≡ true → Started (spells class R q) t)
           → member (class t) (if v then first edges q else []) ≡ true → Started (spells class R (apply p q)) t
       second_starts p q t true e d h m =
           let k = h m in
@@ -85,7 +85,7 @@ module _ (ok : Type 0) {T D N : Type 0} {Of : N → Type 0} (class : T → ℕ) 
           (k.0, k.1, λ z. then_opens (spells class R p) (λ f. Seq (spells class R q) (λ x. None_of (f x))) b.0 [] ((t, k.0) ∷ []) b.1 (opens_then (spells class R q) (λ x. None_of (b.0 x)) ((t, k.0) ∷ []) (k.2 z) (λ x. ([], b.0 x, λ s. (refl, refl)))))
       second_starts p q t false e d h m = absurd (cc)
 
-      pub part_starts : {X : Type 0} (g : Part T N Of X) → decides class edges example g ≡ true → (t : T) → member (class t) (first edges g) ≡ true → Started (spells class R g) t
+      pub part_starts : {X : Type 0} (g : Production T N Of X) → decides class edges example g ≡ true → (t : T) → member (class t) (first edges g) ≡ true → Started (spells class R g) t
       part_starts (give x) d t m = absurd (cc)
       part_starts (token inner set value) d t m = token_starts inner R.room set value t roomy m
       part_starts (apply p q) d t m =
@@ -117,7 +117,7 @@ module _ (ok : Type 0) {T D N : Type 0} {Of : N → Type 0} (class : T → ℕ) 
     token_fine true false true set value d o g s n = f.fine_deep ok Within (of class set) (λ z. leaf_opens (of class set) value R.below (example (first_of set)) d) (λ t e. (R.below, n refl, λ z. leaf_starts (of class set) value R.below t e))
     token_fine true false false set value d o g s n = f.fine_deep ok Within (of class set) (λ z. absurd (let e = o z in cc)) (λ t e. (R.below, n refl, λ z. absurd (let e = o z in cc)))
 
-    pub part_fine : {X : Type 0} (g : Part T N Of X) → decides class edges example g ≡ true → f.Fine ok Within (reads class edges E g) (spells class R g)
+    pub part_fine : {X : Type 0} (g : Production T N Of X) → decides class edges example g ≡ true → f.Fine ok Within (reads class edges E g) (spells class R g)
     part_fine (give x) d = f.fine_pure ok Within x
     part_fine (token inner set value) d = token_fine inner E.room R.room set value d roomy grows shallow deep
     part_fine (apply p q) d =

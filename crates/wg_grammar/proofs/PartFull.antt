@@ -2,7 +2,7 @@
 use Rattle.std.proofs.Common.{◌≡◌, ℕ, ◌||◌, ◌&&◌, not, Bool, true, false, List, [], ◌∷◌, ◌++◌, refl, sym, ◌∙◌, ap, subst, if◌then◌else◌, inl, inr, ◌⊎◌}
 use Rattle.wg_grammar.specs.Reading.{sees}
 use Rattle.wg_grammar.specs.Depths.{plain}
-use Rattle.wg_grammar.specs.Parts.{Part, give, token, apply, either, list, sub, apart, of, Edges, Readers, Rules, read_token, spell_token, nullable, first, stops, reads, spells, decides}
+use Rattle.wg_grammar.specs.Productions.{Production, give, token, apply, either, list, sub, apart, of, Edges, Readers, Rules, read_token, spell_token, nullable, first, stops, reads, spells, decides}
 use Rattle.wg_grammar.proofs.Sets.{both_true, not_true, sees_none, sees_left, sees_right, apart_other}
 use Rattle.wg_grammar.proofs.Full.{Full, full_pure, full_bind, full_take, full_for, full_many}
 use Rattle.wg_grammar.proofs.PartKept.{Grows, part_eats}
@@ -24,7 +24,7 @@ full_token true true false here below test value e = absurd (cc)
 full_token true false true here below test value e = absurd (cc)
 
 module _ {T D N : Type 0} {Of : N → Type 0} (class : T → ℕ) (edges : Edges N) (example : ℕ → T) (R : Rules T D N Of) where
-  module _ (begins : (n : N) (x : Of n) (i r : List (T × D)) → R.rule n x i r → sees (of class (edges.first n)) (plain i) ≡ true) where
+  module _ (begins_with : (n : N) (x : Of n) (i r : List (T × D)) → R.rule n x i r → sees (of class (edges.first n)) (plain i) ≡ true) where
     begun_then : (v w : Bool) (cs ds : List ℕ) (i m r : List (T × D)) → Begun (of class cs) v i m → Begun (of class ds) w m r → Begun (of class (cs ++ (if v then ds else []))) (v && w) i r
     begun_then v w cs ds i m r (inr s) k = inr (sees_left class cs (if v then ds else []) (plain i) s)
     begun_then true w cs ds i m r (inl a) (inl b) = inl (b.0, a.1 ∙ b.1)
@@ -44,7 +44,7 @@ module _ {T D N : Type 0} {Of : N → Type 0} (class : T → ℕ) (edges : Edges
     begun_some v cs i r n (inl a) = absurd (let e = a.0 in cc)
     begun_some v cs i r n (inr s) = s
 
-    pub begun : {X : Type 0} (g : Part T N Of X) → decides class edges example g ≡ true → (x : X) (i r : List (T × D)) → spells class R g x i r → Begun (of class (first edges g)) (nullable g) i r
+    pub begun : {X : Type 0} (g : Production T N Of X) → decides class edges example g ≡ true → (x : X) (i r : List (T × D)) → spells class R g x i r → Begun (of class (first edges g)) (nullable g) i r
     begun (give y) d x i r h = inl (refl, h.1)
     begun (token inner set value) d x i r h = inr (begun_token inner R.room R.here R.below (of class set) value x i r h)
     begun (apply p q) d x i r h =
@@ -64,9 +64,9 @@ module _ {T D N : Type 0} {Of : N → Type 0} (class : T → ℕ) (edges : Edges
     begun (list p) d (x ∷ xs) i r h =
         let a = both_true (decides class edges example p) _ d in
         inr (begun_some (nullable p) (first edges p) i h.0 (not_true (nullable p) (both_true (not (nullable p)) _ a.1).0) (begun p a.0 x i h.0 h.1))
-    begun (sub n) d x i r h = inr (begins n x i r h)
+    begun (sub n) d x i r h = inr (begins_with n x i r h)
 
-    pub part_begins : {X : Type 0} (g : Part T N Of X) → decides class edges example g ≡ true → nullable g ≡ false → (x : X) (i r : List (T × D)) → spells class R g x i r → sees (of class (first edges g)) (plain i) ≡ true
+    pub part_begins : {X : Type 0} (g : Production T N Of X) → decides class edges example g ≡ true → nullable g ≡ false → (x : X) (i r : List (T × D)) → spells class R g x i r → sees (of class (first edges g)) (plain i) ≡ true
     part_begins g d n x i r h = begun_some (nullable g) (first edges g) i r n (begun g d x i r h)
 
     -- the first part stops before the second
@@ -83,7 +83,7 @@ module _ {T D N : Type 0} {Of : N → Type 0} (class : T → ℕ) (edges : Edges
 
     module _ (E : Readers T N Of) (room : E.room ≡ R.room) (self : Grows E E)
         (whole : (n : N) → Full (E.read n) (R.rule n) (λ _ ts. sees (of class (edges.stops n)) ts ≡ false)) where
-      pub part_full : {X : Type 0} (g : Part T N Of X) → decides class edges example g ≡ true → Full (reads class edges E g) (spells class R g) (λ _ ts. sees (of class (stops edges g)) ts ≡ false)
+      pub part_full : {X : Type 0} (g : Production T N Of X) → decides class edges example g ≡ true → Full (reads class edges E g) (spells class R g) (λ _ ts. sees (of class (stops edges g)) ts ≡ false)
       part_full (give x) d = full_pure x
       part_full (token inner set value) d = full_token inner E.room R.room R.here R.below (of class set) value room
       part_full (apply p q) d =

@@ -1,5 +1,5 @@
 pub mod Spans
 pub mod Reading
 pub mod Depths
-pub mod Parts
-pub mod Takes
+pub mod Productions
+pub mod TakesTokens

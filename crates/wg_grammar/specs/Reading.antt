@@ -2,22 +2,22 @@
 use Rattle.std.specs.Prelude.{ℕ, zero, suc, Bool, true, false, ◌&&◌, if◌then◌else◌, List, [], ◌∷◌, length}
 
 -- what reading gives: a value and what is left; the first token that cannot stand there; the first that is too deep
-pub data Outcome (T X : Type 0) : Type 0 where
-  Got : X → List T → Outcome T X
-  Wrong : List T → Outcome T X
-  Deep : List T → Outcome T X
+pub data Reading (T X : Type 0) : Type 0 where
+  Got : X → List T → Reading T X
+  Wrong : List T → Reading T X
+  Deep : List T → Reading T X
 
 abbrev pub Reader : Type 0 → Type 0 → Type 0
-Reader T X = List T → Outcome T X
+Reader T X = List T → Reading T X
 
-abbrev pub and_then : {T X Y : Type 0} → Outcome T X → (X → Reader T Y) → Outcome T Y
-and_then (Got x rest) f = f x rest
-and_then (Wrong rest) f = Wrong rest
-and_then (Deep rest) f = Deep rest
+abbrev pub read_on : {T X Y : Type 0} → Reading T X → (X → Reader T Y) → Reading T Y
+read_on (Got x rest) f = f x rest
+read_on (Wrong rest) f = Wrong rest
+read_on (Deep rest) f = Deep rest
 
 infixl 10 ◌>>=◌
 abbrev pub ◌>>=◌ : {T X Y : Type 0} → Reader T X → (X → Reader T Y) → Reader T Y
-p >>= f = λ ts. and_then (p ts) f
+p >>= f = λ ts. read_on (p ts) f
 
 abbrev pub pure : {T X : Type 0} → X → Reader T X
 pure x = λ ts. Got x ts
@@ -28,10 +28,10 @@ sees test [] = false
 sees test (t ∷ ts) = test t
 
 -- whether the next tokens pass these tests
-abbrev pub begins : {T : Type 0} → List (T → Bool) → List T → Bool
-begins [] ts = true
-begins (test ∷ tests) [] = false
-begins (test ∷ tests) (t ∷ ts) = test t && begins tests ts
+abbrev pub begins_with : {T : Type 0} → List (T → Bool) → List T → Bool
+begins_with [] ts = true
+begins_with (test ∷ tests) [] = false
+begins_with (test ∷ tests) (t ∷ ts) = test t && begins_with tests ts
 
 -- takes the next token, if it is one of these
 abbrev pub take_if : {T X : Type 0} → (T → Bool) → (T → X) → Reader T X
@@ -48,7 +48,7 @@ by_next test p q ts = if sees test ts then p ts else q ts
 
 -- p where the next tokens pass these tests, else q
 abbrev pub look : {T X : Type 0} → List (T → Bool) → Reader T X → Reader T X → Reader T X
-look tests p q ts = if begins tests ts then p ts else q ts
+look tests p q ts = if begins_with tests ts then p ts else q ts
 
 -- items, as long as the next token begins one
 abbrev pub many_from : {T X : Type 0} → (T → Bool) → Reader T X → ℕ → Reader T (List X)

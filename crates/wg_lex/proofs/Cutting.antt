@@ -48,7 +48,7 @@ tokens_append text at (p ∷ ps) qs = cons_append text at p.matter p.size ps qs 
 abbrev GoesOn : List ℕ → List Piece → List Piece → Type 0
 GoesOn text ps qs = (more : List Piece) × (qs ≡ ps ++ more) × BeginsWith (drop (size_of ps) text) more
 
-goes_on : (text : List ℕ) (ps qs : List Piece) → BeginsWith text ps → BeginsWith text qs → size_of ps ≤ size_of qs → GoesOn text ps qs
+pub goes_on : (text : List ℕ) (ps qs : List Piece) → BeginsWith text ps → BeginsWith text qs → size_of ps ≤ size_of qs → GoesOn text ps qs
 goes_on text [] qs h k l = (qs, refl, k)
 goes_on text (p ∷ ps) [] h k l = let z = size_positive text p h.0 in absurd (omega arith)
 goes_on text (p ∷ ps) (q ∷ qs) h k l =
@@ -107,7 +107,7 @@ step text at p found l unbroken h = record {
 
 -- ---- the end
 
-drop_all : (text : List ℕ) (at : ℕ) → length text ≤ at → drop at text ≡ []
+pub drop_all : (text : List ℕ) (at : ℕ) → length text ≤ at → drop at text ≡ []
 drop_all [] zero h = refl
 drop_all [] (suc at) h = refl
 drop_all (b ∷ bs) zero h = absurd (omega arith)
@@ -124,7 +124,7 @@ only text at found others e h (qs, k, size, same) =
     let none : rest.0 ≡ [] = none_of_size (drop (size_of h.pieces) text) rest.0 rest.2 (omega arith) in
     same ∙ ap (tokens_of text 0) (rest.1 ∙ ap (λ z. h.pieces ++ z) none ∙ append-nil h.pieces) ∙ sym h.tokens
 
-unbroken_end : (rule : LexicalRule) (before : List ℕ) → IsBroken rule before [] → ⊥
+pub unbroken_end : (rule : LexicalRule) (before : List ℕ) → IsBroken rule before [] → ⊥
 unbroken_end not_ascii before h = let e = h.1 in cc
 unbroken_end preprocessor before h = let e = h.0 in cc
 unbroken_end wide_literal before h = let s = size_positive [] _ h.3 in let i = h.3.inside in omega arith

@@ -1,10 +1,12 @@
 -- Which broken rule is the first at its place.
-use Rattle.std.proofs.Common.{◌≡◌, ℕ, zero, suc, ◌<◌, ◌≤◌, ◌==◌, Bool, true, false, ◌&&◌, if◌then◌else◌, nat_lt, List, [], ◌∷◌, take, get_or, slice_get, Some, None, refl, sym, ◌∙◌, ap, arith, codes}
+use Rattle.std.proofs.Common.{◌≡◌, ℕ, zero, suc, ◌<◌, ◌≤◌, ◌==◌, Bool, true, false, ◌&&◌, if◌then◌else◌, nat_lt, List, [], ◌∷◌, take, get_or, slice_get, Option, Some, None, refl, sym, ◌∙◌, ap, arith, codes, bytes_eq}
 use Rattle.std.specs.List.{list_all}
 use Rattle.std.proofs.lemmas.Bool.Decides.{nat_tests}
 use Rattle.wg_tokens.specs.declared.token.TokenKind.TheVariants.{Number}
-use Rattle.wg_tokens.specs.Characters.{is_among, is_blank, is_letter, is_digit}
-use Rattle.wg_tokens.specs.Spelling.{Matter, comment, token, matter_of, is_punctuation}
+use Rattle.wg_tokens.specs.declared.mark.Mark.{Mark}
+use Rattle.wg_tokens.specs.Characters.{is_blank, is_letter, is_digit}
+use Rattle.wg_tokens.specs.Spelling.{Matter, comment, token, matter_of}
+use Rattle.wg_tokens.specs.Spelled.{lookup, marks, mark_named}
 use Rattle.wg_tokens.specs.Cut.{Piece, IsLongest}
 use Rattle.wg_tokens.specs.LexicalRules.{LexicalRule, not_ascii, preprocessor, wide_literal, open_comment, stray_byte, rule_number, IsBroken, IsNotAscii, IsPreprocessor, IsWideLiteral, IsOpenComment, IsStray}
 use Rattle.wg_lex.proofs.FrontRules.{not_wide, first_open}
@@ -12,18 +14,28 @@ use Rattle.wg_lex.proofs.Cutting.{size_positive}
 
 -- ---- a byte of 128 or more, and a `#`, begin no piece
 
-among_step : (c b : ℕ) (cs : List ℕ) (v : Bool) → nat_lt c 128 ≡ v → (v && list_all (λ c. nat_lt c 128) cs) ≡ true → 128 ≤ b → (list_all (λ c. nat_lt c 128) cs ≡ true → is_among cs b ≡ false) → is_among (c ∷ cs) b ≡ false
-among_step c b cs false below e h ih = absurd (cc)
-among_step c b cs true below e h ih = let differs : (c == b) ≡ false = grind (arith, nat_tests) in rw differs (ih e)
+abbrev begins_below : List ℕ → Bool
+begins_below [] = false
+begins_below (c ∷ cs) = nat_lt c 128
 
-among_below : (these : List ℕ) (b : ℕ) → list_all (λ c. nat_lt c 128) these ≡ true → 128 ≤ b → is_among these b ≡ false
-among_below [] b e h = refl
-among_below (c ∷ cs) b e h = among_step c b cs (nat_lt c 128) refl e h (λ k. among_below cs b k h)
+below_differs : (c b : ℕ) → nat_lt c 128 ≡ true → 128 ≤ b → (c == b) ≡ false
+below_differs c b e h = grind (arith, nat_tests)
 
-mark_above : (b : ℕ) (bs : List ℕ) → 128 ≤ b → is_punctuation (b ∷ bs) ≡ false
-mark_above b [] h = among_below (codes "{}()[]<>;,.:?=+-*/%&|^!~") b refl h
-mark_above b (c ∷ []) h = let p = among_below (codes "<>=!+-*/%&|^") b refl h in let q = among_below (codes "<>&|+-") b refl h in rw (p, q) refl
-mark_above b (c ∷ d ∷ ds) h = let p = among_below (codes "<>") b refl h in rw p refl
+entry_above : (spelled : List ℕ) (mark : Mark) (b : ℕ) (bs : List ℕ) (later : Option Mark) → begins_below spelled ≡ true → 128 ≤ b → (if bytes_eq spelled (b ∷ bs) then Some mark else later) ≡ later
+entry_above [] mark b bs later e h = absurd (cc)
+entry_above (c ∷ cs) mark b bs later e h = let differs = below_differs c b e h in rw differs refl
+
+both_hold : (v w : Bool) → (v && w) ≡ true → (v ≡ true) × (w ≡ true)
+both_hold true w e = (refl, e)
+both_hold false w e = absurd (cc)
+
+lookup_above : (table : List (List ℕ × Mark)) (b : ℕ) (bs : List ℕ) → list_all (λ e. begins_below e.0) table ≡ true → 128 ≤ b → lookup table (b ∷ bs) ≡ None
+lookup_above [] b bs e h = refl
+lookup_above (entry ∷ rest) b bs e h = let p = both_hold (begins_below entry.0) (list_all (λ e. begins_below e.0) rest) e in
+    entry_above entry.0 entry.1 b bs (lookup rest (b ∷ bs)) p.0 h ∙ lookup_above rest b bs p.1 h
+
+mark_above : (b : ℕ) (bs : List ℕ) → 128 ≤ b → mark_named (b ∷ bs) ≡ None
+mark_above b bs h = lookup_above marks b bs refl h
 
 matter_above : (b : ℕ) (bs : List ℕ) → 128 ≤ b → matter_of (b ∷ bs) ≡ None
 matter_above b bs h =
@@ -36,9 +48,7 @@ matter_above b bs h =
     rw (p, q, r, s, t, m) refl
 
 matter_hash : (bs : List ℕ) → matter_of (35 ∷ bs) ≡ None
-matter_hash [] = refl
-matter_hash (c ∷ []) = refl
-matter_hash (c ∷ d ∷ ds) = refl
+matter_hash bs = refl
 
 front_none : (text : List ℕ) (b : ℕ) (p : Piece) → slice_get text 0 ≡ Some b → ((bs : List ℕ) → matter_of (b ∷ bs) ≡ None) → IsLongest text p → ⊥
 front_none [] b p e h l = cc
@@ -54,7 +64,7 @@ piece_is_ascii text p l (b, at, above) = front_none text b p at (λ bs. matter_a
 pub piece_is_no_hash : (before text : List ℕ) (p : Piece) → IsLongest text p → IsPreprocessor before text → ⊥
 piece_is_no_hash before text p l h = front_none text 35 p h.0 matter_hash l
 
-piece_is_no_stray : (text : List ℕ) (p : Piece) → IsLongest text p → IsStray text → ⊥
+pub piece_is_no_stray : (text : List ℕ) (p : Piece) → IsLongest text p → IsStray text → ⊥
 piece_is_no_stray text p l h = let e = h.1 p.size l.inside in let f = l.is in cc
 
 -- ---- where a piece stands that breaks no rule

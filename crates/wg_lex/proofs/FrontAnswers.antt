@@ -2,7 +2,8 @@
 use Rattle.std.proofs.Common.{◌≡◌, ◌≢◌, ℕ, zero, suc, ◌+◌, ◌^◌, ◌<◌, ◌≤◌, ◌==◌, Bool, true, false, ◌&&◌, List, [], ◌∷◌, length, take, drop, get_or, Option, Some, None, refl, sym, ◌∙◌, ap, subst, arith, codes, inl, inr, not}
 use Rattle.std.specs.List.{prefix_len}
 use Rattle.std.proofs.lemmas.Bool.Decides.{nat_tests}
-use Rattle.wg_tokens.specs.Characters.{is_among, is_blank, is_letter, is_digit, is_word, is_text_byte, is_line_feed}
+use Rattle.wg_tokens.specs.Characters.{is_one_of, is_blank, is_letter, is_digit, is_word, is_text_byte, is_line_feed}
+use Rattle.wg_tokens.specs.declared.mark.Mark as Signs
 use Rattle.wg_tokens.specs.declared.token.TokenKind.TheVariants.{Plain, Number, Text, Mark}
 use Rattle.wg_tokens.specs.Spelling.{comment, token, matter_of}
 use Rattle.wg_tokens.specs.Cut.{IsLongest}
@@ -28,7 +29,7 @@ front_of_name text n run plain letter = let is = name_is text n run plain letter
     other : {name : List ℕ} {v : ℕ} {u : Bool} → token (Plain name) ≡ token (Number v u) → ⊥
     other e = cc
 
-pub front_of_number : (text : List ℕ) (value size : ℕ) (unsigned : Bool) → is_digit (get_or text 0 0) ≡ true → value < 2 ^ 32 → is_among (codes "lL") (get_or text size 0) ≡ false
+pub front_of_number : (text : List ℕ) (value size : ℕ) (unsigned : Bool) → is_digit (get_or text 0 0) ≡ true → value < 2 ^ 32 → is_one_of (codes "lL") (get_or text size 0) ≡ false
     → IsLongest text (record { matter = token (Number value unsigned); size = size }) → IsFront text (Token (Number value unsigned) size)
 front_of_number text value size unsigned digit fits short is = (is, not_wide_number text value size unsigned is fits short, not_open text (digit_is_no_slash (get_or text 0 0) (get_or text 1 0 == 42) digit))
 
@@ -36,7 +37,7 @@ numeral_some : (text : List ℕ) (value : Option ℕ) (size : ℕ) (u : Bool) �
 numeral_some text (Some v) size u h = (v, h.value)
 numeral_some text None size u h = (h.wide.0, h.wide.2)
 
-pub front_of_long : (text : List ℕ) (numeral : Numeral) → IsNumeral text numeral → is_among (codes "lL") (get_or text numeral.size 0) ≡ true → IsFront text WideLiteral
+pub front_of_long : (text : List ℕ) (numeral : Numeral) → IsNumeral text numeral → is_one_of (codes "lL") (get_or text numeral.size 0) ≡ true → IsFront text WideLiteral
 front_of_long text numeral h long = let s = numeral_some text numeral.value numeral.size numeral.unsigned h in wide_by_letter text s.0 numeral.size numeral.unsigned s.1 long
 
 pub value_of_numeral : (text : List ℕ) (value : Option ℕ) (v size : ℕ) (u : Bool) → value ≡ Some v → IsNumeral text (record { value = value; unsigned = u; size = size }) → IsLongest text (record { matter = token (Number v u); size = size })
@@ -85,11 +86,11 @@ front_of_open_comment text rest h after at = (opens_comment text h, none text re
         mark e = cc
     none (c ∷ cs) rest after at b (suc (suc m)) k e = let n = open_comment_is (c ∷ cs) rest (suc (suc m)) b.0 b.1 after at (omega arith) k in cc
 
-pub front_of_mark : (text : List ℕ) (code n : ℕ) → BeginsNoOther text → IsLongestMark text code n → IsFront text (Token (Mark code) n)
+pub front_of_mark : (text : List ℕ) (code : Signs.Mark) (n : ℕ) → BeginsNoOther text → IsLongestMark text code n → IsFront text (Token (Mark code) n)
 front_of_mark text code n h mark = let is = mark_is text code n h mark in
     (is, not_wide text (record { matter = token (Mark code); size = n }) is (λ v u e. other e), not_open text h.block)
   where
-    other : {code v : ℕ} {u : Bool} → token (Mark code) ≡ token (Number v u) → ⊥
+    other : {code : Signs.Mark} {v : ℕ} {u : Bool} → token (Mark code) ≡ token (Number v u) → ⊥
     other e = cc
 
 pub front_of_stray : (text : List ℕ) → 0 < length text → BeginsNoOther text → IsNoMark text → IsFront text Stray

@@ -1,7 +1,7 @@
 -- Which rules the front of a text breaks.
 use Rattle.std.proofs.Common.{◌≡◌, ◌≢◌, ℕ, zero, suc, ◌^◌, ◌<◌, ◌≤◌, ◌==◌, Bool, true, false, ◌&&◌, List, [], ◌∷◌, take, get_or, slice_get, Some, IsTrue, refl, sym, ◌∙◌, ap, arith, codes, ◌⊎◌, inl, inr}
 use Rattle.std.proofs.lemmas.Bool.Decides.{nat_tests}
-use Rattle.wg_tokens.specs.Characters.{is_among}
+use Rattle.wg_tokens.specs.Characters.{is_one_of}
 use Rattle.wg_tokens.specs.declared.token.TokenKind.TheVariants.{Number}
 use Rattle.wg_tokens.specs.Spelling.{Matter, token, matter_of}
 use Rattle.wg_tokens.specs.Cut.{Piece, IsLongest}
@@ -31,7 +31,7 @@ not_wide text p h other (value, unsigned, size, number, wide) =
     other value unsigned (ap (λ z. z.matter) (one_longest text p (record { matter = token (Number value unsigned); size = size }) h number))
 
 abbrev is_long : ℕ → Bool
-is_long b = is_among (codes "lL") b
+is_long b = is_one_of (codes "lL") b
 
 at_get : (text : List ℕ) (i b : ℕ) → slice_get text i ≡ Some b → get_or text i 0 ≡ b
 at_get [] i b e = absurd (cc)

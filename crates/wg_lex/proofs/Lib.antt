@@ -1,4 +1,5 @@
 pub mod CommentEnds
+pub mod CutTexts
 pub mod Cutting
 pub mod FirstFaults
 pub mod FrontAnswers

@@ -5,6 +5,7 @@ use Rattle.std.proofs.lemmas.Bool.Decides.{nat_tests}
 use Rattle.std.proofs.lemmas.List.{length-drop}
 use Rattle.std.proofs.Math.Seq.{drop-cons}
 use Rattle.wg_tokens.specs.Characters.{is_blank, is_letter, is_word, is_line_feed, is_text_byte}
+use Rattle.wg_tokens.specs.declared.mark.Mark as Signs
 use Rattle.wg_tokens.specs.declared.token.TokenKind.TheVariants.{Plain, Text, Mark}
 use Rattle.wg_tokens.specs.Spelling.{blank, comment, token, is_quote, closes, matter_of, mark_of, text_of, slash_of}
 use Rattle.wg_tokens.specs.Cut.{IsLongest}
@@ -230,10 +231,10 @@ mark_matter [] (suc m) h = refl
 mark_matter (b ∷ bs) (suc m) h = let p = h.blank in let q = h.letter in let r = h.digit in let s = h.quote in
     rw (p, q, r, s) (slash_or_mark b (take m bs) (b == 47) refl (λ e. first_of_front bs m 47 (second_is_other (b == 47) (get_or bs 0 0 == 47) h.line e) refl) (λ e. first_of_front bs m 42 (second_is_other (b == 47) (get_or bs 0 0 == 42) h.block e) refl))
 
-pub mark_is : (text : List ℕ) (code n : ℕ) → BeginsNoOther text → IsLongestMark text code n → IsLongest text (record { matter = token (Mark code); size = n })
+pub mark_is : (text : List ℕ) (code : Signs.Mark) (n : ℕ) → BeginsNoOther text → IsLongestMark text code n → IsLongest text (record { matter = token (Mark code); size = n })
 mark_is text code n h mark = record {
   inside = mark.inside;
-  is = mark_matter text n h ∙ (let e = mark.is in rw e (ap (λ z. Some (token (Mark z))) (sym mark.code)));
+  is = mark_matter text n h ∙ (let e = mark.is in rw e refl);
   longest = λ m l k. mark_matter text m h ∙ (let e = mark.longest m l k in rw e refl);
 }
 

@@ -4,7 +4,7 @@ use Rattle.std.specs.List.{prefix_len}
 use Rattle.std.proofs.lemmas.Bool.Decides.{nat_tests}
 use Rattle.std.proofs.lemmas.List.{length-drop}
 use Rattle.std.proofs.Math.Seq.{drop-cons}
-use Rattle.wg_tokens.specs.Characters.{is_among, is_blank, is_letter, is_digit, is_hex_digit, digit_value}
+use Rattle.wg_tokens.specs.Characters.{is_one_of, is_blank, is_letter, is_digit, is_hex_digit, digit_value}
 use Rattle.wg_tokens.specs.declared.token.TokenKind.TheVariants.{Number}
 use Rattle.wg_tokens.specs.Spelling.{Matter, token, worth, with_suffix, number_in, goes_on_hexadecimal, matter_of}
 use Rattle.wg_tokens.specs.Cut.{IsLongest}
@@ -41,7 +41,7 @@ wide_worth base digits i v positive inside is wide =
 -- ---- digits and suffix
 
 abbrev pub is_suffix : ℕ → Bool
-is_suffix b = is_among (codes "uU") b
+is_suffix b = is_one_of (codes "uU") b
 
 abbrev size_of_suffix : Bool → ℕ
 size_of_suffix u = if u then 1 else 0
@@ -105,20 +105,20 @@ number_in_is p base r text u run e =
 
 -- ---- the two kinds of numbers
 
-pub hexadecimal_test : (text : List ℕ) → begins_hexadecimal text ≡ ((get_or text 0 0 == 48) && is_among (codes "xX") (get_or text 1 0) && is_hex_digit (get_or text 2 0))
+pub hexadecimal_test : (text : List ℕ) → begins_hexadecimal text ≡ ((get_or text 0 0 == 48) && is_one_of (codes "xX") (get_or text 1 0) && is_hex_digit (get_or text 2 0))
 hexadecimal_test [] = refl
 hexadecimal_test (b ∷ []) = short (b == 48)
   where
     short : (v : Bool) → (v && false) ≡ (v && false && false)
     short true = refl
     short false = refl
-hexadecimal_test (b ∷ x ∷ []) = short (b == 48) (is_among (codes "xX") x)
+hexadecimal_test (b ∷ x ∷ []) = short (b == 48) (is_one_of (codes "xX") x)
   where
     short : (v w : Bool) → (v && (w && false)) ≡ (v && w && false)
     short true true = refl
     short true false = refl
     short false w = refl
-hexadecimal_test (b ∷ x ∷ d ∷ ds) = whole (b == 48) (is_among (codes "xX") x) (is_hex_digit d)
+hexadecimal_test (b ∷ x ∷ d ∷ ds) = whole (b == 48) (is_one_of (codes "xX") x) (is_hex_digit d)
   where
     whole : (v w z : Bool) → (v && (w && z)) ≡ (v && w && z)
     whole true w z = refl
@@ -140,7 +140,7 @@ no_hexadecimal b bs zero h = none (b == 48)
 no_hexadecimal b [] (suc k) h = h
 no_hexadecimal b (x ∷ []) (suc zero) h = h
 no_hexadecimal b (x ∷ []) (suc (suc k)) h = h
-no_hexadecimal b (x ∷ d ∷ ds) (suc zero) h = none (b == 48) (is_among (codes "xX") x)
+no_hexadecimal b (x ∷ d ∷ ds) (suc zero) h = none (b == 48) (is_one_of (codes "xX") x)
   where
     none : (v w : Bool) → (v && (w && false)) ≡ false
     none true true = refl
@@ -171,7 +171,7 @@ decimal_is (b ∷ bs) u r digit plain run e =
       longest = λ m h k. decimal_matter b bs m (omega arith) digit plain ∙ t.longest m h k;
     }
 
-hex_matter : (b x d : ℕ) (ds : List ℕ) (m : ℕ) → 0 < m → is_digit b ≡ true → ((b == 48) && (is_among (codes "xX") x && is_hex_digit d)) ≡ true
+hex_matter : (b x d : ℕ) (ds : List ℕ) (m : ℕ) → 0 < m → is_digit b ≡ true → ((b == 48) && (is_one_of (codes "xX") x && is_hex_digit d)) ≡ true
     → matter_of (take (suc (suc m)) (b ∷ x ∷ d ∷ ds)) ≡ number_in is_hex_digit 16 (take m (d ∷ ds))
 hex_matter b x d ds zero h digit begins = absurd (omega arith)
 hex_matter b x d ds (suc m) h digit begins = rw (digit_is_no_blank b digit, digit_is_no_letter b digit, digit, begins) refl
@@ -192,7 +192,7 @@ hexadecimal_is (b ∷ []) u r digit begins run e = let n = none (b == 48) in abs
     none : (v : Bool) → (v && false) ≡ false
     none true = refl
     none false = refl
-hexadecimal_is (b ∷ x ∷ []) u r digit begins run e = let n = none (b == 48) (is_among (codes "xX") x) in absurd (cc)
+hexadecimal_is (b ∷ x ∷ []) u r digit begins run e = let n = none (b == 48) (is_one_of (codes "xX") x) in absurd (cc)
   where
     none : (v w : Bool) → (v && (w && false)) ≡ false
     none true true = refl
@@ -200,7 +200,7 @@ hexadecimal_is (b ∷ x ∷ []) u r digit begins run e = let n = none (b == 48) 
     none false w = refl
 hexadecimal_is (b ∷ x ∷ d ∷ ds) u r digit begins run e =
     let t = number_in_is is_hex_digit 16 r (d ∷ ds) u run e in
-    let hex = hex_opens (b == 48) (is_among (codes "xX") x) (is_hex_digit d) begins in
+    let hex = hex_opens (b == 48) (is_one_of (codes "xX") x) (is_hex_digit d) begins in
     let some : 0 < (if u then r + 1 else r) = some_size r u (subst (λ z. 0 < z) (sym run) (run_of_digit is_hex_digit d ds hex)) in
     subst (λ z. IsLongest (b ∷ x ∷ d ∷ ds) (record { matter = token (Number (worth 16 (take r (d ∷ ds))) u); size = z })) (sym (two_more r u))
     (record {

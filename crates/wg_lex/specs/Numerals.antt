@@ -1,6 +1,6 @@
 -- A number at the front of a text.
 use Rattle.std.specs.Prelude.{◌≡◌, ℕ, ◌+◌, ◌^◌, ◌≤◌, Bool, ◌&&◌, ◌==◌, if◌then◌else◌, List, take, drop, slice_index, codes, IfSome, IfNone}
-use Rattle.wg_tokens.specs.Characters.{is_among}
+use Rattle.wg_tokens.specs.Characters.{is_one_of}
 use Rattle.wg_tokens.specs.Spelling.{worth, token, goes_on_hexadecimal}
 use Rattle.wg_tokens.specs.Cut.{IsLongest}
 use Rattle.wg_tokens.specs.declared.token.TokenKind.TheVariants.{Number}
@@ -10,7 +10,7 @@ use Rattle.wg_lex.specs.declared.numbers.Numeral.{Numeral}
 pub record IsSuffixed (text : List ℕ) (count base : ℕ) (numeral : Numeral) : Type 0 where
   pub value : IfSome numeral.value (λ value. value ≡ worth base (take count text))
   pub wide : IfNone numeral.value (2 ^ 32 ≤ worth base (take count text))
-  pub unsigned : numeral.unsigned ≡ is_among (codes "uU") (slice_index text count)
+  pub unsigned : numeral.unsigned ≡ is_one_of (codes "uU") (slice_index text count)
   pub size : numeral.size ≡ (if numeral.unsigned then count + 1 else count)
 
 -- the number of this value is the longest piece at the front

@@ -1,18 +1,18 @@
 -- Parts of a text, as the steps of the lexer say them.
 use Rattle.std.specs.Prelude.{◌≡◌, ℕ, ◌+◌, ◌<◌, ◌≤◌, Bool, true, false, ◌&&◌, ◌==◌, if◌then◌else◌, List, [], ◌∷◌, length, take, slice_index, Option, Some, None}
 use Rattle.std.specs.Option.{option_map}
+use Rattle.wg_tokens.specs.declared.mark.Mark.{Mark}
 use Rattle.wg_tokens.specs.Characters.{is_blank, is_letter, is_digit}
-use Rattle.wg_tokens.specs.Spelling.{is_punctuation, code_of}
+use Rattle.wg_tokens.specs.Spelled.{mark_named}
 
--- the first n bytes are punctuation of this code, and no more of them are
-pub record IsLongestMark (text : List ℕ) (mark n : ℕ) : Type 0 where
+-- the first n bytes are this mark, and no more of them are one
+pub record IsLongestMark (text : List ℕ) (mark : Mark) (n : ℕ) : Type 0 where
   pub inside : n ≤ length text
-  pub is : is_punctuation (take n text) ≡ true
-  pub code : mark ≡ code_of (take n text)
-  pub longest : (m : ℕ) → n < m → m ≤ length text → is_punctuation (take m text) ≡ false
+  pub is : mark_named (take n text) ≡ Some mark
+  pub longest : (m : ℕ) → n < m → m ≤ length text → mark_named (take m text) ≡ None
 
 abbrev pub IsNoMark : List ℕ → Type 0
-IsNoMark text = (m : ℕ) → m ≤ length text → is_punctuation (take m text) ≡ false
+IsNoMark text = (m : ℕ) → m ≤ length text → mark_named (take m text) ≡ None
 
 -- how many bytes there are to the end of the first `*/`, where a `*` may stand before them
 abbrev pub comment_end : Bool → List ℕ → Option ℕ

@@ -26,7 +26,7 @@ pub enum Front {
 }
 
 fn is_long(suffix: u8) -> bool
-    ensures { result ≡ class.is_among (codes "lL") suffix }
+    ensures { result ≡ class.is_one_of (codes "lL") suffix }
 {
     suffix == b'l' || suffix == b'L'
 }
@@ -112,8 +112,8 @@ fn mark(text: &[u8]) -> Front
     ensures { IsFront text.now result }
 {
     match longest_mark(text) {
-        Some((code, size)) => Front::Token {
-            kind: TokenKind::Mark { code },
+        Some((mark, size)) => Front::Token {
+            kind: TokenKind::Mark { mark },
             size,
         },
         None => Front::Stray,

@@ -5,6 +5,7 @@ mod characters;
 mod comments;
 mod fault;
 mod front;
+mod law;
 mod marks;
 mod numbers;
 mod position;
@@ -14,4 +15,5 @@ mod tests;
 mod text;
 
 pub use fault::LexFault;
+pub use law::what_cut_texts_keep;
 pub use text::{MOST_BYTES, lex};

@@ -1,80 +1,88 @@
 use crate::{LexFault, MOST_BYTES, lex};
+use std::alloc::Global;
 use std::test::Fail;
-use wg_tokens::{Token, TokenKind};
+use wg_tokens::TokenKind;
 use wg_words::Place;
 
-fn at(line: u32, column: u32) -> Place {
+/// What a text is cut into: the line, the column and the bytes of each token.
+type Cut = (&'static [u8], &'static [(u32, u32, &'static [u8])]);
+
+// By hand from `docs/LANGUAGE.md`.
+const CUTS: [Cut; 6] = [
+    (b"", &[]),
+    (b"a>>=b", &[(1, 1, b"a"), (1, 2, b">>="), (1, 5, b"b")]),
+    (b"0x 0x1u", &[(1, 1, b"0"), (1, 2, b"x"), (1, 4, b"0x1u")]),
+    (
+        b"\"a b\"+++y",
+        &[
+            (1, 1, b"\"a b\""),
+            (1, 6, b"++"),
+            (1, 8, b"+"),
+            (1, 9, b"y"),
+        ],
+    ),
+    (
+        b"a / b /= c",
+        &[
+            (1, 1, b"a"),
+            (1, 3, b"/"),
+            (1, 5, b"b"),
+            (1, 7, b"/="),
+            (1, 10, b"c"),
+        ],
+    ),
+    (
+        b"a\n  b /*\xc8\n*/ c // d\nfor",
+        &[(1, 1, b"a"), (2, 3, b"b"), (3, 4, b"c"), (4, 1, b"for")],
+    ),
+];
+
+const VALUES: [(&[u8], u32, bool); 4] = [
+    (b"007", 7, false),
+    (b"0xFfu", 255, true),
+    (b"0X80000000", 0x8000_0000, false),
+    (b"4294967295U", 0xffff_ffff, true),
+];
+
+const fn at(line: u32, column: u32) -> Place {
     Place { line, column }
 }
 
-fn number_of(token: &Token) -> Option<(u32, bool)> {
-    match &token.kind {
-        TokenKind::Number { value, unsigned } => Some((*value, *unsigned)),
-        _ => None,
+fn is_cut_so(alloc: Global, text: &[u8], wanted: &[(u32, u32, &[u8])]) -> Result<bool, Fail> {
+    let tokens = lex(alloc, text)?;
+    if tokens.len() != wanted.len() {
+        return Ok(false);
     }
-}
-
-#[test]
-fn each_token_is_the_longest_at_its_place(rt: HostRuntime) -> Result<(), Fail> {
-    let rows: [(&[u8], &[&[u8]]); 6] = [
-        (b"", &[]),
-        (b"a>>=b", &[b"a", b">>=", b"b"]),
-        (b"0x 0x1u", &[b"0", b"x", b"0x1u"]),
-        (b"a/* \xc8 */b // c", &[b"a", b"b"]),
-        (
-            b"x[\"a b\"]+++y",
-            &[b"x", b"[", b"\"a b\"", b"]", b"++", b"+", b"y"],
-        ),
-        (b"a / b /= c", &[b"a", b"/", b"b", b"/=", b"c"]),
-    ];
-    for (text, wanted) in rows {
-        let tokens = lex(rt.alloc(), text)?;
-        assert_eq!(rt; tokens.len(), wanted.len());
-        for (token, spelled) in tokens.iter().zip(wanted) {
-            let found = text.get(token.from as usize..token.to as usize);
-            assert_eq!(rt; found.ok_or("no such part")?, *spelled);
+    for (token, (line, column, bytes)) in tokens.iter().zip(wanted) {
+        let found = text.get(token.from as usize..token.to as usize);
+        if token.place != at(*line, *column) || found.ok_or("no such part")? != *bytes {
+            return Ok(false);
         }
     }
-    Ok(())
+    Ok(true)
 }
 
-#[test]
-fn numbers_have_their_values(rt: HostRuntime) -> Result<(), Fail> {
-    let rows: [(&[u8], u32, bool); 5] = [
-        (b"007", 7, false),
-        (b"4294967295", 0xffff_ffff, false),
-        (b"0xFfu", 255, true),
-        (b"0X80000000", 0x8000_0000, false),
-        (b"19U", 19, true),
-    ];
-    for (text, value, unsigned) in rows {
-        let tokens = lex(rt.alloc(), text)?;
-        let token = tokens.as_slice().first().ok_or("no token")?;
-        assert_eq!(rt; number_of(token), Some((value, unsigned)));
+fn value_of(alloc: Global, text: &[u8]) -> Result<(u32, bool), Fail> {
+    let tokens = lex(alloc, text)?;
+    match &tokens.as_slice().first().ok_or("no token")?.kind {
+        TokenKind::Number { value, unsigned } => Ok((*value, *unsigned)),
+        _ => Err("no number".into()),
     }
-    Ok(())
 }
 
 #[test]
-fn lines_and_columns_count_from_one(rt: HostRuntime) -> Result<(), Fail> {
-    let wanted = [at(1, 1), at(2, 3), at(3, 4), at(4, 1)];
-    let tokens = lex(rt.alloc(), b"a\n  b /*\n*/ c // d\nfor")?;
-    assert_eq!(rt; tokens.len(), wanted.len());
-    for (token, place) in tokens.iter().zip(&wanted) {
-        assert_eq!(rt; token.place, *place);
+fn texts_are_cut_or_answer_their_first_broken_rule(rt: HostRuntime) -> Result<(), Fail> {
+    let alloc = rt.alloc();
+    for (text, wanted) in CUTS {
+        assert!(rt; is_cut_so(alloc, text, wanted)?);
     }
-    Ok(())
-}
-
-#[test]
-fn the_first_broken_rule_is_answered(rt: HostRuntime) -> Result<(), Fail> {
-    let rows: [(&[u8], LexFault); 12] = [
+    for (text, value, unsigned) in VALUES {
+        assert_eq!(rt; value_of(alloc, text)?, (value, unsigned));
+    }
+    let faults: [(&[u8], LexFault); 9] = [
         (b"a /*", LexFault::OpenComment { place: at(1, 3) }),
-        (b"#define X 1", LexFault::Preprocessor { place: at(1, 1) }),
         (b"a\n \t#", LexFault::Preprocessor { place: at(2, 3) }),
-        (b"x # y", LexFault::StrayByte { place: at(1, 3) }),
         (b"/* */ #", LexFault::StrayByte { place: at(1, 7) }),
-        (b"0x100000000", LexFault::WideLiteral { place: at(1, 1) }),
         (b"a 4294967296", LexFault::WideLiteral { place: at(1, 3) }),
         (b"5l", LexFault::WideLiteral { place: at(1, 1) }),
         (b"a \xc8", LexFault::NotAscii { place: at(1, 3) }),
@@ -82,10 +90,10 @@ fn the_first_broken_rule_is_answered(rt: HostRuntime) -> Result<(), Fail> {
         (b"\"a\xc8\"", LexFault::StrayByte { place: at(1, 1) }),
         (b"@ 5l", LexFault::StrayByte { place: at(1, 1) }),
     ];
-    for (text, wanted) in rows {
-        assert_eq!(rt; lex(rt.alloc(), text).err(), Some(wanted));
+    for (text, wanted) in faults {
+        assert_eq!(rt; lex(alloc, text).err(), Some(wanted));
     }
-    let long = vec![in rt.alloc(); b' '; MOST_BYTES + 1]?;
-    assert_eq!(rt; lex(rt.alloc(), &long).err(), Some(LexFault::TextTooLong));
+    let long = vec![in alloc; b' '; MOST_BYTES + 1]?;
+    assert_eq!(rt; lex(alloc, &long).err(), Some(LexFault::TextTooLong));
     Ok(())
 }

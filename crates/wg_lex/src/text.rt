@@ -1,7 +1,8 @@
 //! A whole text.
 ghost use Rattle.std.specs.Prelude.{◌≡◌, ◌+◌, ◌<◌, ◌≤◌, length, IfOk, IfErr, List};
 ghost use Rattle.wg_tokens.specs.Cut.{Cuts};
-ghost use Rattle.wg_tokens.specs.LexicalRules.{BreaksNone, most_bytes};
+ghost use Rattle.wg_tokens.specs.LexicalRules.{BreaksNone, Keeps, most_bytes, wide_literal, open_comment};
+ghost use Rattle.wg_lex.specs.declared.fault.LexFault.TheVariants.{Memory};
 ghost use Rattle.wg_tokens.specs.declared.token.Token.{Token};
 ghost use Rattle.wg_lex.specs.Faults.{IsFault};
 ghost use Rattle.wg_lex.specs.Fronts.{stray_fault};
@@ -31,7 +32,7 @@ fn stray(b: u8, position: Position) -> LexFault
 }
 
 /// The tokens of a text, in order, or the first rule that it breaks.
-pub fn lex(alloc: Global, text: &[u8]) -> Result<Vec<Token>, LexFault>
+fn cut(alloc: Global, text: &[u8]) -> Result<Vec<Token>, LexFault>
     ensures cut { IfOk result (λ tokens. Cuts text.now tokens.items) }
     ensures only { IfOk result (λ tokens. (others : List Token) → Cuts text.now others → others ≡ tokens.items) }
     ensures rules { IfOk result (λ _. BreaksNone text.now) }
@@ -66,4 +67,16 @@ pub fn lex(alloc: Global, text: &[u8]) -> Result<Vec<Token>, LexFault>
         at += size;
     }
     Ok(tokens)
+}
+
+/// The tokens of a text, in order, or the first rule that it breaks.
+pub fn lex(alloc: Global, text: &[u8]) -> Result<Vec<Token>, LexFault>
+    ensures cut { IfOk result (λ tokens. Cuts text.now tokens.items) }
+    ensures only { IfOk result (λ tokens. (others : List Token) → Cuts text.now others → others ≡ tokens.items) }
+    ensures rules { IfOk result (λ _. BreaksNone text.now) }
+    ensures size { IfOk result (λ _. length text.now ≤ most_bytes) }
+    ensures fault { IfErr result (λ fault. IsFault text.now fault) }
+    ensures exact { IfErr result (λ fault. (tokens : List Token) → Cuts text.now tokens → length text.now ≤ most_bytes → Keeps text.now wide_literal → Keeps text.now open_comment → fault ≡ Memory) }
+{
+    cut(alloc, text)
 }

@@ -53,8 +53,8 @@ HasCause limit tokens (fault.TooDeep place) = (rest : List Token) × IsTooDeep l
 HasCause limit tokens fault.Memory = Unit {0}
 
 -- this answer is what the result says, unless there was no memory
-abbrev pub Tells : List Token → Answer → Result Source ParseFault → Type 0
-Tells tokens answer (Ok tree) = answer ≡ spelled tree
-Tells tokens answer (Err (fault.Expected place kind)) = (rest : List Token) × (answer ≡ expected rest) × (place ≡ place_at tokens rest) × (kind ≡ kind_at rest)
-Tells tokens answer (Err (fault.TooDeep place)) = (rest : List Token) × (answer ≡ too_deep rest) × (place ≡ place_at tokens rest)
-Tells tokens answer (Err fault.Memory) = Unit {0}
+abbrev pub TellsAnswer : List Token → Answer → Result Source ParseFault → Type 0
+TellsAnswer tokens answer (Ok tree) = answer ≡ spelled tree
+TellsAnswer tokens answer (Err (fault.Expected place kind)) = (rest : List Token) × (answer ≡ expected rest) × (place ≡ place_at tokens rest) × (kind ≡ kind_at rest)
+TellsAnswer tokens answer (Err (fault.TooDeep place)) = (rest : List Token) × (answer ≡ too_deep rest) × (place ≡ place_at tokens rest)
+TellsAnswer tokens answer (Err fault.Memory) = Unit {0}

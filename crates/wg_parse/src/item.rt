@@ -1,28 +1,28 @@
 //! Declarations of a text.
 ghost use Rattle.wg_tree.specs.GrammarItem as grammar;
 ghost use Rattle.wg_tree.specs.ReadsItem.{read_text};
-ghost use Rattle.wg_cursor.specs.Gives.{Gives};
-ghost use Rattle.wg_statements.specs.PartReads.{item_read};
-ghost use Rattle.wg_parse.specs.ItemPieces as pieces;
+ghost use Rattle.wg_cursor.specs.IsReading.{IsReading};
+ghost use Rattle.wg_declarations.specs.PartReads.{item_part_read};
 
 use crate::parameter::{parameters, semantic};
 use sqlite_items::Items;
 use std::alloc::Global;
 use wg_cursor::symbols::*;
 use wg_cursor::words::*;
-use wg_cursor::{Cursor, Halt, Rule, class, many};
-use wg_expressions::{Kind, expr};
-use wg_statements::{TYPES, a_type, attributes, block, size, type_argument};
-use wg_tokens::Keyword;
+use wg_cursor::{Cursor, ElementReader, Halt, class, joined, many};
+use wg_declarations::{TYPES, a_type, attributes, size, type_argument};
+use wg_expressions::{ExprKind, expr};
+use wg_statements::block;
+use wg_tokens::{Class, Keyword};
 use wg_tree::{BufferType, Field, Item, Named, ResultType, Source};
 use wg_words::Place;
 
-const RAW_BUFFERS: [u32; 2] = [RW_BYTE_ADDRESS_BUFFER, BYTE_ADDRESS_BUFFER];
+const RAW_BUFFERS: [Class; 2] = [RW_BYTE_ADDRESS_BUFFER, BYTE_ADDRESS_BUFFER];
 
-const STRUCTURED_BUFFERS: [u32; 2] = [RW_STRUCTURED_BUFFER, STRUCTURED_BUFFER];
+const STRUCTURED_BUFFERS: [Class; 2] = [RW_STRUCTURED_BUFFER, STRUCTURED_BUFFER];
 
 /// The classes with which the declaration of a buffer begins.
-const BUFFERS: [u32; 5] = [
+const BUFFERS: [Class; 5] = [
     GLOBALLY_COHERENT,
     RW_BYTE_ADDRESS_BUFFER,
     BYTE_ADDRESS_BUFFER,
@@ -31,7 +31,7 @@ const BUFFERS: [u32; 5] = [
 ];
 
 /// The classes with which a declaration of a text begins.
-const ITEM_STARTS: [u32; 23] = [
+const ITEM_STARTS: [Class; 23] = [
     STRUCT,
     GLOBALLY_COHERENT,
     RW_BYTE_ADDRESS_BUFFER,
@@ -62,13 +62,13 @@ struct AField {
     room: u32,
 }
 
-impl Rule for AField {
+impl ElementReader for AField {
     ghost use Rattle.wg_tree.specs.GrammarItem as grammar;
-    ghost use Rattle.wg_statements.specs.PartReads.{item_read};
+    ghost use Rattle.wg_declarations.specs.PartReads.{item_part_read};
 
     type Tree = Field;
 
-    ghost reads = { λ rule. item_read rule.room grammar.field };
+    ghost reads = { λ rule. item_part_read rule.room grammar.field };
 
     fn read(&self, alloc: Global, cursor: &mut Cursor<'_>) -> Result<Field, Halt> {
         let of = a_type(alloc, cursor)?;
@@ -86,7 +86,7 @@ impl Rule for AField {
 }
 
 fn struct_item(alloc: Global, cursor: &mut Cursor<'_>, room: u32) -> Result<Item, Halt>
-    ensures { Gives (item_read room grammar.struct_item cursor.old) result cursor.new }
+    ensures { IsReading (item_part_read room grammar.struct_item cursor.old) result cursor.new }
 {
     let place = cursor.word(Keyword::Struct)?;
     let attributes = attributes(alloc, cursor, room)?;
@@ -104,20 +104,20 @@ fn struct_item(alloc: Global, cursor: &mut Cursor<'_>, room: u32) -> Result<Item
 }
 
 fn buffer_type(alloc: Global, cursor: &mut Cursor<'_>) -> Result<BufferType, Halt>
-    ensures { Gives (item_read 0 grammar.a_buffer_type cursor.old) result cursor.new }
+    ensures { IsReading (item_part_read 0 grammar.a_buffer_type cursor.old) result cursor.new }
 {
     if cursor.sees(&RAW_BUFFERS) {
         let token = cursor.take(&RAW_BUFFERS)?;
         return Ok(BufferType::Raw {
             place: token.place,
-            writable: class(token) == RW_BYTE_ADDRESS_BUFFER,
+            writable: class(token).number() == RW_BYTE_ADDRESS_BUFFER.number(),
         });
     }
     let token = cursor.take(&STRUCTURED_BUFFERS)?;
     let of = type_argument(alloc, cursor)?;
     Ok(BufferType::Structured {
         place: token.place,
-        writable: class(token) == RW_STRUCTURED_BUFFER,
+        writable: class(token).number() == RW_STRUCTURED_BUFFER.number(),
         of,
     })
 }
@@ -125,13 +125,13 @@ fn buffer_type(alloc: Global, cursor: &mut Cursor<'_>) -> Result<BufferType, Hal
 #[derive(Drop)]
 struct NextName;
 
-impl Rule for NextName {
-    ghost use Rattle.wg_statements.specs.PartReads.{item_read};
-    ghost use Rattle.wg_parse.specs.ItemPieces as pieces;
+impl ElementReader for NextName {
+    ghost use Rattle.wg_declarations.specs.PartReads.{item_part_read};
+    ghost use Rattle.wg_tree.specs.GrammarItem as grammar;
 
     type Tree = Named;
 
-    ghost reads = { λ rule. item_read 0 pieces.next_name };
+    ghost reads = { λ rule. item_part_read 0 grammar.next_name };
 
     fn read(&self, alloc: Global, cursor: &mut Cursor<'_>) -> Result<Named, Halt> {
         cursor.mark(COMMA)?;
@@ -140,17 +140,16 @@ impl Rule for NextName {
 }
 
 fn some_names(alloc: Global, cursor: &mut Cursor<'_>) -> Result<Items<Named>, Halt>
-    ensures { Gives (item_read 0 pieces.some_names cursor.old) result cursor.new }
+    ensures { IsReading (item_part_read 0 grammar.some_names cursor.old) result cursor.new }
 {
-    let mut names = Items::new(alloc);
-    names.push(cursor.name(alloc)?)?;
-    names.append(many(alloc, cursor, &[COMMA], &NextName)?)?;
-    Ok(names)
+    let first = cursor.name(alloc)?;
+    let rest = many(alloc, cursor, &[COMMA], &NextName)?;
+    Ok(joined(alloc, first, rest)?)
 }
 
 /// The registers of a buffer, if it names any.
 fn registers(alloc: Global, cursor: &mut Cursor<'_>) -> Result<Items<Named>, Halt>
-    ensures { Gives (item_read 0 grammar.registers cursor.old) result cursor.new }
+    ensures { IsReading (item_part_read 0 grammar.registers cursor.old) result cursor.new }
 {
     if !cursor.sees(&[COLON]) {
         return Ok(Items::new(alloc));
@@ -164,7 +163,7 @@ fn registers(alloc: Global, cursor: &mut Cursor<'_>) -> Result<Items<Named>, Hal
 }
 
 fn coherent(cursor: &mut Cursor<'_>) -> Result<Option<Place>, Halt>
-    ensures { Gives (item_read 0 pieces.coherent cursor.old) result cursor.new }
+    ensures { IsReading (item_part_read 0 grammar.coherent cursor.old) result cursor.new }
 {
     if !cursor.sees(&[GLOBALLY_COHERENT]) {
         return Ok(None);
@@ -173,7 +172,7 @@ fn coherent(cursor: &mut Cursor<'_>) -> Result<Option<Place>, Halt>
 }
 
 fn buffer_item(alloc: Global, cursor: &mut Cursor<'_>) -> Result<Item, Halt>
-    ensures { Gives (item_read 0 grammar.buffer_item cursor.old) result cursor.new }
+    ensures { IsReading (item_part_read 0 grammar.buffer_item cursor.old) result cursor.new }
 {
     let coherent = coherent(cursor)?;
     let of = buffer_type(alloc, cursor)?;
@@ -189,7 +188,7 @@ fn buffer_item(alloc: Global, cursor: &mut Cursor<'_>) -> Result<Item, Halt>
 }
 
 fn shared_item(alloc: Global, cursor: &mut Cursor<'_>, room: u32) -> Result<Item, Halt>
-    ensures { Gives (item_read room grammar.shared_item cursor.old) result cursor.new }
+    ensures { IsReading (item_part_read room grammar.shared_item cursor.old) result cursor.new }
 {
     let place = cursor.word(Keyword::GroupShared)?;
     let of = a_type(alloc, cursor)?;
@@ -205,14 +204,14 @@ fn shared_item(alloc: Global, cursor: &mut Cursor<'_>, room: u32) -> Result<Item
 }
 
 fn constant_item(alloc: Global, cursor: &mut Cursor<'_>, room: u32) -> Result<Item, Halt>
-    ensures { Gives (item_read room grammar.constant_item cursor.old) result cursor.new }
+    ensures { IsReading (item_part_read room grammar.constant_item cursor.old) result cursor.new }
 {
     let place = cursor.word(Keyword::Static)?;
     cursor.word(Keyword::Const)?;
     let of = a_type(alloc, cursor)?;
     let name = cursor.name(alloc)?;
     cursor.mark(ASSIGN)?;
-    let value = expr(alloc, cursor, Kind::Constant, room)?;
+    let value = expr(alloc, cursor, ExprKind::Constant, room)?;
     cursor.mark(SEMICOLON)?;
     Ok(Item::Constant {
         place,
@@ -223,7 +222,7 @@ fn constant_item(alloc: Global, cursor: &mut Cursor<'_>, room: u32) -> Result<It
 }
 
 fn result_type(alloc: Global, cursor: &mut Cursor<'_>) -> Result<ResultType, Halt>
-    ensures { Gives (item_read 0 grammar.a_result cursor.old) result cursor.new }
+    ensures { IsReading (item_part_read 0 grammar.a_result cursor.old) result cursor.new }
 {
     if cursor.sees(&[VOID]) {
         let place = cursor.word(Keyword::Void)?;
@@ -234,7 +233,7 @@ fn result_type(alloc: Global, cursor: &mut Cursor<'_>) -> Result<ResultType, Hal
 }
 
 fn function_item(alloc: Global, cursor: &mut Cursor<'_>, room: u32) -> Result<Item, Halt>
-    ensures { Gives (item_read room grammar.function_item cursor.old) result cursor.new }
+    ensures { IsReading (item_part_read room grammar.function_item cursor.old) result cursor.new }
 {
     let attributes = attributes(alloc, cursor, room)?;
     let result = result_type(alloc, cursor)?;
@@ -256,13 +255,13 @@ struct AnItem {
     room: u32,
 }
 
-impl Rule for AnItem {
+impl ElementReader for AnItem {
     ghost use Rattle.wg_tree.specs.GrammarItem as grammar;
-    ghost use Rattle.wg_statements.specs.PartReads.{item_read};
+    ghost use Rattle.wg_declarations.specs.PartReads.{item_part_read};
 
     type Tree = Item;
 
-    ghost reads = { λ rule. item_read rule.room grammar.an_item };
+    ghost reads = { λ rule. item_part_read rule.room grammar.an_item };
 
     fn read(&self, alloc: Global, cursor: &mut Cursor<'_>) -> Result<Item, Halt> {
         if cursor.sees(&[STRUCT]) {
@@ -281,7 +280,7 @@ impl Rule for AnItem {
 
 /// Declarations, as long as the next token begins one.
 pub(crate) fn text(alloc: Global, cursor: &mut Cursor<'_>, room: u32) -> Result<Source, Halt>
-    ensures { Gives (read_text room cursor.old) result cursor.new }
+    ensures { IsReading (read_text room cursor.old) result cursor.new }
 {
     let items = many(alloc, cursor, &ITEM_STARTS, &AnItem { room })?;
     Ok(Source { items })

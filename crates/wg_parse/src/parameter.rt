@@ -1,23 +1,28 @@
 //! Parameters of functions.
 ghost use Rattle.std.specs.Prelude.{◌≡◌};
 ghost use Rattle.wg_tree.specs.GrammarItem as grammar;
-ghost use Rattle.wg_cursor.specs.Gives.{Gives};
-ghost use Rattle.wg_statements.specs.PartReads.{item_read};
-ghost use Rattle.wg_parse.specs.ItemPieces as pieces;
+ghost use Rattle.wg_cursor.specs.IsReading.{IsReading};
+ghost use Rattle.wg_declarations.specs.PartReads.{item_part_read};
 
 use sqlite_items::Items;
 use std::alloc::Global;
 use wg_cursor::symbols::*;
 use wg_cursor::words::*;
-use wg_cursor::{Cursor, Halt, Rule, class, many};
-use wg_statements::{TYPES, a_type, attributes, parameter_object};
-use wg_tokens::Token;
+use wg_cursor::{Cursor, ElementReader, Halt, at_class, class, joined, many};
+use wg_declarations::{TYPES, a_type, attributes, parameter_object};
+use wg_tokens::{Class, Token};
 use wg_tree::{Directed, Direction, Named, Parameter, ParameterType};
 
-const DIRECTIONS: [u32; 3] = [IN, OUT, IN_OUT];
+const DIRECTIONS: [Class; 3] = [IN, OUT, IN_OUT];
+
+const DIRECTION_WORDS: [(Class, Direction); 3] = [
+    (IN, Direction::In),
+    (OUT, Direction::Out),
+    (IN_OUT, Direction::InOut),
+];
 
 /// The classes with which a parameter begins.
-const PARAMETER_STARTS: [u32; 28] = [
+const PARAMETER_STARTS: [Class; 28] = [
     LEFT_BRACKET,
     IN,
     OUT,
@@ -50,7 +55,7 @@ const PARAMETER_STARTS: [u32; 28] = [
 
 /// The system value of a field or a parameter, if it names one.
 pub(crate) fn semantic(alloc: Global, cursor: &mut Cursor<'_>) -> Result<Option<Named>, Halt>
-    ensures { Gives (item_read 0 grammar.semantic cursor.old) result cursor.new }
+    ensures { IsReading (item_part_read 0 grammar.semantic cursor.old) result cursor.new }
 {
     if !cursor.sees(&[COLON]) {
         return Ok(None);
@@ -64,17 +69,13 @@ fn directed(token: &Token) -> Directed
 {
     Directed {
         place: token.place,
-        direction: match class(token) {
-            OUT => Direction::Out,
-            IN_OUT => Direction::InOut,
-            _ => Direction::In,
-        },
+        direction: at_class(&DIRECTION_WORDS, Direction::In, class(token)),
     }
 }
 
 #[tactic(auto, using(crate::proofs::Directions::with_direction))]
 fn direction(cursor: &mut Cursor<'_>) -> Result<Option<Directed>, Halt>
-    ensures { Gives (item_read 0 pieces.direction cursor.old) result cursor.new }
+    ensures { IsReading (item_part_read 0 grammar.some_direction cursor.old) result cursor.new }
 {
     if !cursor.sees(&DIRECTIONS) {
         return Ok(None);
@@ -84,7 +85,7 @@ fn direction(cursor: &mut Cursor<'_>) -> Result<Option<Directed>, Halt>
 }
 
 fn parameter_type(alloc: Global, cursor: &mut Cursor<'_>) -> Result<ParameterType, Halt>
-    ensures { Gives (item_read 0 pieces.parameter_type_part cursor.old) result cursor.new }
+    ensures { IsReading (item_part_read 0 grammar.a_parameter_type cursor.old) result cursor.new }
 {
     if cursor.sees(&TYPES) {
         let of = a_type(alloc, cursor)?;
@@ -95,7 +96,7 @@ fn parameter_type(alloc: Global, cursor: &mut Cursor<'_>) -> Result<ParameterTyp
 }
 
 fn parameter(alloc: Global, cursor: &mut Cursor<'_>, room: u32) -> Result<Parameter, Halt>
-    ensures { Gives (item_read room grammar.a_parameter cursor.old) result cursor.new }
+    ensures { IsReading (item_part_read room grammar.a_parameter cursor.old) result cursor.new }
 {
     let attributes = attributes(alloc, cursor, room)?;
     let direction = direction(cursor)?;
@@ -116,13 +117,13 @@ struct NextParameter {
     room: u32,
 }
 
-impl Rule for NextParameter {
-    ghost use Rattle.wg_statements.specs.PartReads.{item_read};
-    ghost use Rattle.wg_parse.specs.ItemPieces as pieces;
+impl ElementReader for NextParameter {
+    ghost use Rattle.wg_declarations.specs.PartReads.{item_part_read};
+    ghost use Rattle.wg_tree.specs.GrammarItem as grammar;
 
     type Tree = Parameter;
 
-    ghost reads = { λ rule. item_read rule.room pieces.next_parameter };
+    ghost reads = { λ rule. item_part_read rule.room grammar.next_parameter };
 
     fn read(&self, alloc: Global, cursor: &mut Cursor<'_>) -> Result<Parameter, Halt> {
         cursor.mark(COMMA)?;
@@ -135,12 +136,11 @@ fn some_parameters(
     cursor: &mut Cursor<'_>,
     room: u32,
 ) -> Result<Items<Parameter>, Halt>
-    ensures { Gives (item_read room pieces.some_parameters cursor.old) result cursor.new }
+    ensures { IsReading (item_part_read room grammar.some_parameters cursor.old) result cursor.new }
 {
-    let mut parameters = Items::new(alloc);
-    parameters.push(parameter(alloc, cursor, room)?)?;
-    parameters.append(many(alloc, cursor, &[COMMA], &NextParameter { room })?)?;
-    Ok(parameters)
+    let first = parameter(alloc, cursor, room)?;
+    let rest = many(alloc, cursor, &[COMMA], &NextParameter { room })?;
+    Ok(joined(alloc, first, rest)?)
 }
 
 pub(crate) fn parameters(
@@ -148,7 +148,7 @@ pub(crate) fn parameters(
     cursor: &mut Cursor<'_>,
     room: u32,
 ) -> Result<Items<Parameter>, Halt>
-    ensures { Gives (item_read room grammar.parameters cursor.old) result cursor.new }
+    ensures { IsReading (item_part_read room grammar.parameters cursor.old) result cursor.new }
 {
     cursor.mark(LEFT_PAREN)?;
     let parameters = if cursor.sees(&PARAMETER_STARTS) {

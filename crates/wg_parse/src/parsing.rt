@@ -45,7 +45,7 @@ fn copy_kind(alloc: Global, kind: &TokenKind) -> Result<TokenKind, AllocError>
         TokenKind::Text { bytes } => TokenKind::Text {
             bytes: bytes.copy(alloc)?,
         },
-        TokenKind::Mark { code } => TokenKind::Mark { code: *code },
+        TokenKind::Mark { mark } => TokenKind::Mark { mark: *mark },
         TokenKind::End => TokenKind::End,
     })
 }
@@ -102,7 +102,7 @@ fn expected(alloc: Global, tokens: &[Token], rest: &[Token]) -> ParseFault
 fn parse_within(alloc: Global, tokens: &[Token], nesting: u32) -> Result<Source, ParseFault>
     ensures tree { IfOk result (λ tree. SpelledWithin nesting tokens.now tree) }
     ensures fault { IfErr result (λ fault. spec.HasCause nesting tokens.now fault) }
-    ensures exact { (answer : Answer) → IsAnswer nesting tokens.now answer → spec.Tells tokens.now answer result }
+    ensures exact { (answer : Answer) → IsAnswer nesting tokens.now answer → spec.TellsAnswer tokens.now answer result }
 {
     reads_what_is_spelled();
     reads_to_the_fault();
@@ -132,7 +132,7 @@ fn parse_within(alloc: Global, tokens: &[Token], nesting: u32) -> Result<Source,
 pub fn parse(alloc: Global, tokens: &[Token]) -> Result<Source, ParseFault>
     ensures tree { IfOk result (λ tree. SpelledWithin spec.nesting tokens.now tree) }
     ensures fault { IfErr result (λ fault. spec.HasCause spec.nesting tokens.now fault) }
-    ensures exact { (answer : Answer) → IsAnswer spec.nesting tokens.now answer → spec.Tells tokens.now answer result }
+    ensures exact { (answer : Answer) → IsAnswer spec.nesting tokens.now answer → spec.TellsAnswer tokens.now answer result }
 {
     parse_within(alloc, tokens, MOST_NESTING)
 }

@@ -1,29 +1,29 @@
 //! Statements and their bodies. They nest as deep as `depth` says, so that neither reading nor dropping a tree can overflow the stack.
 ghost use Rattle.std.specs.Prelude.{◌≡◌};
 ghost use Rattle.wg_grammar.specs.Reading.{many};
-ghost use Rattle.wg_grammar.specs.Parts.{of};
-ghost use Rattle.wg_tree.specs.Symbols.{class};
+ghost use Rattle.wg_grammar.specs.Productions.{of};
+ghost use Rattle.wg_tokens.specs.Classes.{class};
 ghost use Rattle.wg_tree.specs.ReadsStmt as reads;
-ghost use Rattle.wg_cursor.specs.Gives.{Gives};
-ghost use Rattle.wg_statements.specs.PartReads.{headed};
-ghost use Rattle.wg_statements.specs.StmtPieces as pieces;
+ghost use Rattle.wg_cursor.specs.IsReading.{IsReading};
+ghost use Rattle.wg_declarations.specs.PartReads.{headed};
+ghost use Rattle.wg_tree.specs.GrammarStmt as grammar;
 
-use crate::attribute::attributes;
 use crate::stmt::{basic, condition, header};
 use sqlite_items::{Boxed, Items};
 use std::alloc::Global;
 use wg_cursor::symbols::*;
 use wg_cursor::words::*;
-use wg_cursor::{Cursor, Halt, read_by_turns};
-use wg_tokens::Keyword;
+use wg_cursor::{Cursor, Halt, fitted, read_by_turns};
+use wg_declarations::attributes;
+use wg_tokens::{Class, Keyword};
 use wg_tree::{Attribute, Stmt};
 use wg_words::Place;
 
 /// The classes with which a statement with a body begins.
-const HEAD_STARTS: [u32; 4] = [LEFT_BRACKET, IF, WHILE, FOR];
+const HEAD_STARTS: [Class; 4] = [LEFT_BRACKET, IF, WHILE, FOR];
 
 /// The classes with which a statement begins.
-const STMT_STARTS: [u32; 47] = [
+const STMT_STARTS: [Class; 47] = [
     LEFT_BRACE,
     LEFT_BRACKET,
     IF,
@@ -82,7 +82,7 @@ pub fn block(
     room: u32,
     depth: u32,
 ) -> Result<(Place, Items<Stmt>), Halt>
-    ensures { Gives ((reads.below_at room depth).block cursor.old) result cursor.new }
+    ensures { IsReading ((reads.below_at room depth).block cursor.old) result cursor.new }
 {
     if depth == 0 {
         return Err(cursor.too_deep(&[LEFT_BRACE]));
@@ -95,22 +95,22 @@ pub fn block(
 
 #[cycle(stmt)]
 fn stmts(alloc: Global, cursor: &mut Cursor<'_>, room: u32, depth: u32) -> Result<Items<Stmt>, Halt>
-    ensures { Gives (many (of class reads.stmt_starts) (reads.read_stmt room (reads.below_at room depth)) cursor.old) result cursor.new }
+    ensures { IsReading (many (of class reads.stmt_starts) (reads.read_stmt room (reads.below_at room depth)) cursor.old) result cursor.new }
 {
     read_by_turns::<Stmt>();
-    let mut found = Items::new(alloc);
+    let mut found = Vec::new(alloc);
     for _turn in 0..cursor.left() {
         if !cursor.sees(&STMT_STARTS) {
-            return Ok(found);
+            return Ok(fitted(found));
         }
         found.push(stmt(alloc, cursor, room, depth)?)?;
     }
-    Ok(found)
+    Ok(fitted(found))
 }
 
 #[cycle(stmt)]
 fn stmt(alloc: Global, cursor: &mut Cursor<'_>, room: u32, depth: u32) -> Result<Stmt, Halt>
-    ensures { Gives (reads.read_stmt room (reads.below_at room depth) cursor.old) result cursor.new }
+    ensures { IsReading (reads.read_stmt room (reads.below_at room depth) cursor.old) result cursor.new }
 {
     if cursor.sees(&[LEFT_BRACE]) {
         let (place, body) = block(alloc, cursor, room, depth)?;
@@ -124,7 +124,7 @@ fn stmt(alloc: Global, cursor: &mut Cursor<'_>, room: u32, depth: u32) -> Result
 #[cycle(stmt)]
 #[tactic(auto, using(crate::proofs::Bodies::body_block, crate::proofs::Bodies::body_unbraced, crate::proofs::Bodies::no_body))]
 fn body(alloc: Global, cursor: &mut Cursor<'_>, room: u32, depth: u32) -> Result<Stmt, Halt>
-    ensures { Gives ((reads.below_at room depth).body cursor.old) result cursor.new }
+    ensures { IsReading ((reads.below_at room depth).body cursor.old) result cursor.new }
 {
     if depth == 0 {
         return Err(cursor.too_deep(&STMT_STARTS));
@@ -139,7 +139,7 @@ fn body(alloc: Global, cursor: &mut Cursor<'_>, room: u32, depth: u32) -> Result
 /// A statement that is no block.
 #[cycle(stmt)]
 fn unbraced(alloc: Global, cursor: &mut Cursor<'_>, room: u32, depth: u32) -> Result<Stmt, Halt>
-    ensures { Gives (reads.read_unbraced room (reads.below_at room depth).body cursor.old) result cursor.new }
+    ensures { IsReading (reads.read_unbraced room (reads.below_at room depth).body cursor.old) result cursor.new }
 {
     if !cursor.sees(&HEAD_STARTS) {
         return basic(alloc, cursor, room);
@@ -163,7 +163,7 @@ fn if_stmt(
     depth: u32,
     attributes: Items<Attribute>,
 ) -> Result<Stmt, Halt>
-    ensures { Gives (headed room (reads.below_at room depth).body attributes pieces.if_part cursor.old) result cursor.new }
+    ensures { IsReading (headed room (reads.below_at room depth).body attributes grammar.if_head_part cursor.old) result cursor.new }
 {
     let place = cursor.word(Keyword::If)?;
     let test = condition(alloc, cursor, room)?;
@@ -196,7 +196,7 @@ fn while_stmt(
     depth: u32,
     attributes: Items<Attribute>,
 ) -> Result<Stmt, Halt>
-    ensures { Gives (headed room (reads.below_at room depth).body attributes pieces.while_part cursor.old) result cursor.new }
+    ensures { IsReading (headed room (reads.below_at room depth).body attributes grammar.while_head_part cursor.old) result cursor.new }
 {
     let place = cursor.word(Keyword::While)?;
     let test = condition(alloc, cursor, room)?;
@@ -217,10 +217,10 @@ fn for_stmt(
     depth: u32,
     attributes: Items<Attribute>,
 ) -> Result<Stmt, Halt>
-    ensures { Gives (headed room (reads.below_at room depth).body attributes pieces.for_part cursor.old) result cursor.new }
+    ensures { IsReading (headed room (reads.below_at room depth).body attributes grammar.for_head_part cursor.old) result cursor.new }
 {
     let place = cursor.word(Keyword::For)?;
-    let header = header(alloc, cursor, room)?;
+    let header = Boxed::new(alloc, header(alloc, cursor, room)?)?;
     let body = Boxed::new(alloc, body(alloc, cursor, room, depth)?)?;
     Ok(Stmt::For {
         attributes,

@@ -1,34 +1,51 @@
 //! Statements without a body, and what stands before a body.
 ghost use Rattle.wg_tree.specs.GrammarStmt as grammar;
 ghost use Rattle.wg_tree.specs.ReadsStmt as reads;
-ghost use Rattle.wg_cursor.specs.Gives.{Gives};
-ghost use Rattle.wg_statements.specs.PartReads.{piece_read};
-ghost use Rattle.wg_statements.specs.StmtPieces as pieces;
+ghost use Rattle.wg_grammar.specs.Productions.{reads as reads_part};
+ghost use Rattle.wg_tokens.specs.Classes.{class};
+ghost use Rattle.wg_cursor.specs.IsReading.{IsReading};
+ghost use Rattle.wg_declarations.specs.PartReads.{stmt_part_read};
 
-use crate::declaration::{const_declaration, declaration};
-use crate::step::{STEP_STARTS, a_step, steps};
-use crate::type_names::{OBJECTS, TYPES, handle_object};
+use sqlite_items::Boxed;
 use std::alloc::Global;
 use wg_cursor::symbols::*;
 use wg_cursor::words::*;
-use wg_cursor::{Cursor, Halt};
-use wg_expressions::{Kind, expr};
-use wg_tokens::Keyword;
+use wg_cursor::{Cursor, Halt, closed};
+use wg_declarations::{
+    OBJECTS, STEP_STARTS, TYPES, a_step, const_declaration, declaration, handle_object, steps,
+};
+use wg_expressions::{ExprKind, expr};
+use wg_tokens::{Class, Keyword};
 use wg_tree::{Expr, Header, Start, Steps, Stmt};
 
 /// The classes with which the start of a `for` begins.
-const START_STARTS: [u32; 25] = [
+const START_STARTS: [Class; 25] = [
     CONST, MINUS, PLUS, NOT, TILDE, NUMBER, ZERO, TRUE, FALSE, NAME, BOOL, BOOL2, BOOL3, BOOL4,
     INT, INT2, INT3, INT4, UINT, UINT2, UINT3, UINT4, LEFT_PAREN, INCREMENT, DECREMENT,
 ];
 
+fn declared(alloc: Global, cursor: &mut Cursor<'_>, room: u32) -> Result<Stmt, Halt>
+    ensures { IsReading (reads_part class reads.values_edges (reads.values_readers room) grammar.declared_stmt cursor.old) result cursor.new }
+{
+    let declaration = declaration(alloc, cursor, room)?;
+    let declaration = Boxed::new(alloc, declaration)?;
+    Ok(Stmt::Declare { declaration })
+}
+
+fn const_declared(alloc: Global, cursor: &mut Cursor<'_>, room: u32) -> Result<Stmt, Halt>
+    ensures { IsReading (stmt_part_read room grammar.const_stmt cursor.old) result cursor.new }
+{
+    let declaration = const_declaration(alloc, cursor, room)?;
+    let declaration = Boxed::new(alloc, declaration)?;
+    Ok(Stmt::Declare { declaration })
+}
+
 /// A declaration or a step: a type and a name begin a declaration.
 fn opening(alloc: Global, cursor: &mut Cursor<'_>, room: u32) -> Result<Stmt, Halt>
-    ensures { Gives (reads.read_piece room grammar.opening cursor.old) result cursor.new }
+    ensures { IsReading (reads.read_hole room grammar.opening cursor.old) result cursor.new }
 {
     if cursor.begins(&[&TYPES, &[NAME]]) {
-        let declaration = declaration(alloc, cursor, room)?;
-        Ok(Stmt::Declare { declaration })
+        declared(alloc, cursor, room)
     } else {
         let step = a_step(alloc, cursor, room)?;
         Ok(Stmt::Step { step })
@@ -36,7 +53,7 @@ fn opening(alloc: Global, cursor: &mut Cursor<'_>, room: u32) -> Result<Stmt, Ha
 }
 
 fn starting(alloc: Global, cursor: &mut Cursor<'_>, room: u32) -> Result<Start, Halt>
-    ensures { Gives (reads.read_piece room grammar.starting cursor.old) result cursor.new }
+    ensures { IsReading (reads.read_hole room grammar.starting cursor.old) result cursor.new }
 {
     if cursor.begins(&[&TYPES, &[NAME]]) {
         let declaration = declaration(alloc, cursor, room)?;
@@ -48,26 +65,26 @@ fn starting(alloc: Global, cursor: &mut Cursor<'_>, room: u32) -> Result<Start, 
 }
 
 fn handle(alloc: Global, cursor: &mut Cursor<'_>, room: u32) -> Result<Stmt, Halt>
-    ensures { Gives (piece_read room pieces.handle cursor.old) result cursor.new }
+    ensures { IsReading (stmt_part_read room grammar.handle_stmt cursor.old) result cursor.new }
 {
     let of = handle_object(alloc, cursor)?;
     let name = cursor.name(alloc)?;
     cursor.mark(ASSIGN)?;
-    let value = expr(alloc, cursor, Kind::Full, room)?;
+    let value = expr(alloc, cursor, ExprKind::Full, room)?;
     Ok(Stmt::Handle { of, name, value })
 }
 
 fn some_value(alloc: Global, cursor: &mut Cursor<'_>, room: u32) -> Result<Option<Expr>, Halt>
-    ensures { Gives (piece_read room pieces.some_value cursor.old) result cursor.new }
+    ensures { IsReading (stmt_part_read room grammar.some_value cursor.old) result cursor.new }
 {
-    if !cursor.sees(Kind::Full.starts()) {
+    if !cursor.sees(ExprKind::Full.starts()) {
         return Ok(None);
     }
-    Ok(Some(expr(alloc, cursor, Kind::Full, room)?))
+    Ok(Some(expr(alloc, cursor, ExprKind::Full, room)?))
 }
 
 fn result(alloc: Global, cursor: &mut Cursor<'_>, room: u32) -> Result<Stmt, Halt>
-    ensures { Gives (piece_read room pieces.result cursor.old) result cursor.new }
+    ensures { IsReading (stmt_part_read room grammar.return_stmt cursor.old) result cursor.new }
 {
     let place = cursor.word(Keyword::Return)?;
     let value = some_value(alloc, cursor, room)?;
@@ -76,11 +93,10 @@ fn result(alloc: Global, cursor: &mut Cursor<'_>, room: u32) -> Result<Stmt, Hal
 
 /// A statement that ends with `;`, up to it.
 fn unended(alloc: Global, cursor: &mut Cursor<'_>, room: u32) -> Result<Stmt, Halt>
-    ensures { Gives (piece_read room pieces.unended cursor.old) result cursor.new }
+    ensures { IsReading (stmt_part_read room grammar.unended cursor.old) result cursor.new }
 {
     if cursor.sees(&[CONST]) {
-        let declaration = const_declaration(alloc, cursor, room)?;
-        Ok(Stmt::Declare { declaration })
+        const_declared(alloc, cursor, room)
     } else if cursor.sees(&STEP_STARTS) {
         opening(alloc, cursor, room)
     } else if cursor.sees(&OBJECTS) {
@@ -96,32 +112,42 @@ fn unended(alloc: Global, cursor: &mut Cursor<'_>, room: u32) -> Result<Stmt, Ha
     }
 }
 
+fn empty(cursor: &mut Cursor<'_>) -> Result<Stmt, Halt>
+    ensures { IsReading (stmt_part_read 0 grammar.empty_stmt cursor.old) result cursor.new }
+{
+    let place = cursor.mark(SEMICOLON)?;
+    Ok(Stmt::Empty { place })
+}
+
+fn ended(alloc: Global, cursor: &mut Cursor<'_>, room: u32) -> Result<Stmt, Halt>
+    ensures { IsReading (stmt_part_read room grammar.ended_stmt cursor.old) result cursor.new }
+{
+    let stmt = unended(alloc, cursor, room)?;
+    closed(cursor, stmt, SEMICOLON)
+}
+
 /// A statement without a body.
-#[tactic(auto, using(crate::proofs::Ends::ended))]
 pub(crate) fn basic(alloc: Global, cursor: &mut Cursor<'_>, room: u32) -> Result<Stmt, Halt>
-    ensures { Gives (piece_read room grammar.basic cursor.old) result cursor.new }
+    ensures { IsReading (stmt_part_read room grammar.basic cursor.old) result cursor.new }
 {
     if cursor.sees(&[SEMICOLON]) {
-        let place = cursor.mark(SEMICOLON)?;
-        return Ok(Stmt::Empty { place });
+        empty(cursor)
+    } else {
+        ended(alloc, cursor, room)
     }
-    let stmt = unended(alloc, cursor, room)?;
-    cursor.mark(SEMICOLON)?;
-    Ok(stmt)
 }
 
 /// An expression in brackets.
 pub(crate) fn condition(alloc: Global, cursor: &mut Cursor<'_>, room: u32) -> Result<Expr, Halt>
-    ensures { Gives (piece_read room grammar.condition cursor.old) result cursor.new }
+    ensures { IsReading (stmt_part_read room grammar.condition cursor.old) result cursor.new }
 {
     cursor.mark(LEFT_PAREN)?;
-    let test = expr(alloc, cursor, Kind::Full, room)?;
-    cursor.mark(RIGHT_PAREN)?;
-    Ok(test)
+    let test = expr(alloc, cursor, ExprKind::Full, room)?;
+    closed(cursor, test, RIGHT_PAREN)
 }
 
 fn first_start(alloc: Global, cursor: &mut Cursor<'_>, room: u32) -> Result<Option<Start>, Halt>
-    ensures { Gives (piece_read room pieces.first_start cursor.old) result cursor.new }
+    ensures { IsReading (stmt_part_read room grammar.first_start cursor.old) result cursor.new }
 {
     if !cursor.sees(&START_STARTS) {
         return Ok(None);
@@ -134,7 +160,7 @@ fn first_start(alloc: Global, cursor: &mut Cursor<'_>, room: u32) -> Result<Opti
 }
 
 fn some_steps(alloc: Global, cursor: &mut Cursor<'_>, room: u32) -> Result<Option<Steps>, Halt>
-    ensures { Gives (piece_read room pieces.some_steps cursor.old) result cursor.new }
+    ensures { IsReading (stmt_part_read room grammar.some_steps cursor.old) result cursor.new }
 {
     if !cursor.sees(&STEP_STARTS) {
         return Ok(None);
@@ -143,7 +169,7 @@ fn some_steps(alloc: Global, cursor: &mut Cursor<'_>, room: u32) -> Result<Optio
 }
 
 pub(crate) fn header(alloc: Global, cursor: &mut Cursor<'_>, room: u32) -> Result<Header, Halt>
-    ensures { Gives (piece_read room grammar.header cursor.old) result cursor.new }
+    ensures { IsReading (stmt_part_read room grammar.header cursor.old) result cursor.new }
 {
     cursor.mark(LEFT_PAREN)?;
     let start = first_start(alloc, cursor, room)?;

@@ -6,8 +6,8 @@ abbrev pub is_between : ℕ → ℕ → ℕ → Bool
 is_between low high b = nat_le low b && nat_le b high
 
 -- one of these characters
-abbrev pub is_among : List ℕ → ℕ → Bool
-is_among these b = list_any (λ c. c == b) these
+abbrev pub is_one_of : List ℕ → ℕ → Bool
+is_one_of these b = list_any (λ c. c == b) these
 
 abbrev pub is_line_feed : ℕ → Bool
 is_line_feed b = b == 10

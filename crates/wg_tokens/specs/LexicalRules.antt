@@ -2,7 +2,7 @@
 use Rattle.std.specs.Prelude.{◌≡◌, ℕ, ◌^◌, ◌<◌, ◌≤◌, ◌⊎◌, Bool, IsTrue, List, length, take, drop, codes, None, slice_get, Some}
 use Rattle.std.specs.List.{list_all, after_last}
 use Rattle.wg_tokens.specs.declared.token.TokenKind.TheVariants.{Number}
-use Rattle.wg_tokens.specs.Characters.{is_among, is_blank, is_line_feed}
+use Rattle.wg_tokens.specs.Characters.{is_one_of, is_blank, is_line_feed}
 use Rattle.wg_tokens.specs.Spelling.{comment, token, matter_of}
 use Rattle.wg_tokens.specs.Cut.{IsLongest, IsCutAt}
 
@@ -38,7 +38,7 @@ IsPreprocessor before rest = (slice_get rest 0 ≡ Some 35) × IsTrue (list_all 
 -- a number above the greatest word, or one that `l` or `L` follows
 abbrev pub IsWideLiteral : List ℕ → Type 0
 IsWideLiteral rest = (value : ℕ) × (unsigned : Bool) × (size : ℕ) × IsLongest rest (record { matter = token (Number value unsigned); size = size })
-    × ((2 ^ 32 ≤ value) ⊎ ((b : ℕ) × (slice_get rest size ≡ Some b) × IsTrue (is_among (codes "lL") b)))
+    × ((2 ^ 32 ≤ value) ⊎ ((b : ℕ) × (slice_get rest size ≡ Some b) × IsTrue (is_one_of (codes "lL") b)))
 
 -- a `/*` that no `*/` closes
 abbrev pub IsOpenComment : List ℕ → Type 0
@@ -58,6 +58,10 @@ IsBroken stray_byte before rest = IsStray rest
 -- the text breaks the rule at byte `at`
 abbrev pub Breaks : List ℕ → LexicalRule → ℕ → Type 0
 Breaks text rule at = IsCutAt text at × IsBroken rule (take at text) (drop at text)
+
+-- the text breaks the rule nowhere
+abbrev pub Keeps : List ℕ → LexicalRule → Type 0
+Keeps text rule = (at : ℕ) → Breaks text rule at → ⊥
 
 abbrev pub BreaksNone : List ℕ → Type 0
 BreaksNone text = (rule : LexicalRule) (at : ℕ) → Breaks text rule at → ⊥

@@ -1,9 +1,11 @@
 -- What bytes spell, taken as a whole: a blank, a comment or a token.
 use Rattle.std.specs.Prelude.{ℕ, ◌+◌, ◌*◌, Bool, true, false, ◌&&◌, ◌||◌, ◌==◌, not, if◌then◌else◌, List, [], ◌∷◌, drop, take_while, fold, Option, Some, None, codes}
 use Rattle.std.specs.List.{list_all, prefix_len}
+use Rattle.std.specs.Option.{option_map}
 use Rattle.wg_tokens.specs.declared.token.TokenKind.{TokenKind}
 use Rattle.wg_tokens.specs.declared.token.TokenKind.TheVariants.{Plain, Number, Text, Mark}
-use Rattle.wg_tokens.specs.Characters.{is_among, is_line_feed, is_blank, is_letter, is_digit, is_hex_digit, digit_value, is_word, is_text_byte}
+use Rattle.wg_tokens.specs.Spelled.{mark_named}
+use Rattle.wg_tokens.specs.Characters.{is_one_of, is_line_feed, is_blank, is_letter, is_digit, is_hex_digit, digit_value, is_word, is_text_byte}
 
 -- what a piece of a text is
 pub data Matter : Type 0 where
@@ -27,7 +29,7 @@ worth base digits = fold (λ value b. value * base + digit_value b) 0 digits
 -- the number of this value, by the suffix that stands after its digits
 abbrev pub with_suffix : ℕ → List ℕ → Option Matter
 with_suffix value [] = Some (token (Number value false))
-with_suffix value (b ∷ bs) = only_if (is_among (codes "uU") b && is_empty bs) (token (Number value true))
+with_suffix value (b ∷ bs) = only_if (is_one_of (codes "uU") b && is_empty bs) (token (Number value true))
 
 -- digits and their suffix
 abbrev pub number_in : (ℕ → Bool) → ℕ → List ℕ → Option Matter
@@ -36,14 +38,14 @@ number_in is_one base bytes = with_suffix (worth base (take_while is_one bytes))
 -- after a 0: an `x`, and a hexadecimal digit
 abbrev pub goes_on_hexadecimal : List ℕ → Bool
 goes_on_hexadecimal [] = false
-goes_on_hexadecimal (x ∷ bytes) = is_among (codes "xX") x && begins bytes
+goes_on_hexadecimal (x ∷ bytes) = is_one_of (codes "xX") x && begins bytes
   where
     begins : List ℕ → Bool
     begins [] = false
     begins (d ∷ ds) = is_hex_digit d
 
-abbrev pub number_of : ℕ → List ℕ → Option Matter
-number_of b bytes =
+abbrev pub number_from : ℕ → List ℕ → Option Matter
+number_from b bytes =
     if b == 48 && goes_on_hexadecimal bytes then number_in is_hex_digit 16 (drop 1 bytes)
     else number_in is_digit 10 (b ∷ bytes)
 
@@ -58,35 +60,8 @@ text_of bytes = only_if (is_quote (drop (prefix_len is_text_byte bytes) bytes)) 
 
 -- ---- punctuation
 
--- the bytes as a number in base 256, the first the highest
-abbrev pub code_of : List ℕ → ℕ
-code_of bytes = fold (λ code b. code * 256 + b) 0 bytes
-
-abbrev pub is_mark : ℕ → Bool
-is_mark b = is_among (codes "{}()[]<>;,.:?=+-*/%&|^!~") b
-
--- `<=` `>=` `==` `!=` `+=` `-=` `*=` `/=` `%=` `&=` `|=` `^=`, and `<<` `>>` `&&` `||` `++` `--`
-abbrev pub is_double_mark : ℕ → ℕ → Bool
-is_double_mark b c = (is_among (codes "<>=!+-*/%&|^") b && c == 61) || (is_among (codes "<>&|+-") b && c == b)
-
--- `<<=` and `>>=`
-abbrev pub is_triple_mark : ℕ → ℕ → ℕ → Bool
-is_triple_mark b c d = is_among (codes "<>") b && c == b && d == 61
-
-abbrev pub is_punctuation : List ℕ → Bool
-is_punctuation [] = false
-is_punctuation (b ∷ bs) = from b bs
-  where
-    after_two : ℕ → ℕ → List ℕ → Bool
-    after_two b c [] = is_double_mark b c
-    after_two b c (d ∷ ds) = is_triple_mark b c d && is_empty ds
-
-    from : ℕ → List ℕ → Bool
-    from b [] = is_mark b
-    from b (c ∷ cs) = after_two b c cs
-
 abbrev pub mark_of : List ℕ → Option Matter
-mark_of bytes = only_if (is_punctuation bytes) (token (Mark (code_of bytes)))
+mark_of bytes = option_map (λ mark. token (Mark mark)) (mark_named bytes)
 
 -- ---- comments: `//` to the end of the line, `/*` to the first `*/`
 
@@ -116,7 +91,7 @@ matter_of [] = None
 matter_of (b ∷ bs) =
     if is_blank b then only_if (is_empty bs) blank
     else (if is_letter b then only_if (list_all is_word bs) (token (Plain (b ∷ bs)))
-    else (if is_digit b then number_of b bs
+    else (if is_digit b then number_from b bs
     else (if b == 34 then text_of bs
     else (if b == 47 then slash_of bs
     else mark_of (b ∷ bs)))))

@@ -1,3 +1,7 @@
+//! The words of the language.
+ghost use Rattle.std.specs.Prelude.{◌≡◌, ◌<◌, slice_index, slice_get, map};
+ghost use Rattle.wg_tokens.specs.Spelled.{keyword_of, slot, if_spelled};
+
 /// A word of the language, which is no name.
 #[derive(Clone, Copy, Debug, PartialEq, Eq)]
 pub enum Keyword {
@@ -105,3 +109,47 @@ pub const KEYWORDS: [(&[u8], Keyword); 48] = [
     (b"ThreadNodeOutputRecords", Keyword::ThreadNodeOutputRecords),
     (b"GroupNodeOutputRecords", Keyword::GroupNodeOutputRecords),
 ];
+
+/// Where the word of each slot stands in `KEYWORDS`; 48, past its end, where a slot has none.
+const SLOTS: [u8; 128] = [
+    48, 48, 25, 48, 1, 13, 48, 40, 48, 48, 48, 48, 48, 26, 48, 32, 48, 48, 48, 7, 48, 48, 48, 35,
+    16, 48, 33, 12, 11, 48, 48, 48, 48, 36, 28, 48, 48, 34, 48, 8, 48, 48, 48, 21, 38, 29, 48, 48,
+    10, 48, 48, 18, 48, 48, 48, 48, 30, 48, 37, 48, 46, 20, 48, 48, 48, 48, 48, 48, 17, 48, 48, 47,
+    22, 48, 48, 48, 48, 48, 6, 48, 19, 48, 48, 4, 48, 9, 48, 15, 31, 48, 41, 48, 48, 48, 2, 45, 5,
+    48, 0, 48, 48, 48, 43, 44, 23, 48, 14, 27, 48, 3, 42, 48, 48, 48, 48, 48, 48, 48, 48, 24, 48,
+    48, 48, 48, 48, 39, 48, 48,
+];
+
+fn byte(name: &[u8], at: usize) -> u8
+    ensures { result ≡ slice_index name.now at }
+{
+    if at < name.len() { name[at] } else { 0 }
+}
+
+/// The slot of a word in `SLOTS`. No two words of the language have the same.
+fn slot(name: &[u8]) -> usize
+    ensures is { result ≡ slot name.now }
+    ensures within { result < 128 }
+{
+    let first = usize::from(byte(name, 0));
+    let last = usize::from(byte(name, name.len().saturating_sub(1)));
+    (first * 8 + last * 11 + name.len() % 32 * 13) % 128
+}
+
+/// The word that stands there in a table, if it is spelled so.
+fn spelled_at(words: &[(&[u8], Keyword)], at: usize, name: &[u8]) -> Option<Keyword>
+    ensures { result ≡ if_spelled (slice_get (map (λ word. (word.0.now, word.1)) words.now) at) name.now }
+{
+    match words.get(at) {
+        Some((spelled, keyword)) if *spelled == name => Some(*keyword),
+        _ => None,
+    }
+}
+
+/// The word of the language that is spelled so, by one look-up.
+#[tactic(auto, using(crate::proofs::Slots::by_slot))]
+pub fn keyword_of(name: &[u8]) -> Option<Keyword>
+    ensures { result ≡ keyword_of name.now }
+{
+    spelled_at(&KEYWORDS, usize::from(SLOTS[slot(name)]), name)
+}

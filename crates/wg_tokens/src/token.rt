@@ -1,3 +1,4 @@
+use crate::mark::Mark;
 use wg_words::{Items, Name, Place, Word};
 
 pub type Tokens = Items<Token>;
@@ -11,8 +12,8 @@ pub enum TokenKind {
     Number { value: Word, unsigned: bool },
     /// A string, without its quotation marks.
     Text { bytes: Name },
-    /// Punctuation: its bytes as a number in base 256, the first byte the highest.
-    Mark { code: u32 },
+    /// Punctuation.
+    Mark { mark: Mark },
     /// What stands after the last token of a text.
     End,
 }

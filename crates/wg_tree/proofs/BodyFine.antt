@@ -6,15 +6,15 @@ use Rattle.wg_tree.specs.declared.stmt.Stmt.{Stmt}
 use Rattle.wg_tree.specs.declared.stmt.Stmt.TheVariants as s
 use Rattle.wg_grammar.specs.Spans.{Span, Seq, None_of, ◌or◌}
 use Rattle.wg_grammar.specs.Reading.{◌>>=◌, pure, sees, by_next}
-use Rattle.wg_grammar.specs.Parts.{Edges, Rules, of, member, spells, decides}
+use Rattle.wg_grammar.specs.Productions.{Edges, Rules, of, member, spells, decides}
 use Rattle.wg_grammar.proofs.Fine as f
 use Rattle.wg_grammar.proofs.Fine.{Opens, opens_then}
 use Rattle.wg_grammar.proofs.PartFine.{part_opens, part_starts, part_fine, opens_as, or_starts}
-use Rattle.wg_tree.specs.Symbols.{class}
+use Rattle.wg_tokens.specs.Classes.{class}
 use Rattle.wg_tree.specs.Depths.{Depth, deeper, in_statement, Within}
-use Rattle.wg_tree.specs.GrammarExpr.{Rule}
-use Rattle.wg_tree.specs.GrammarStmt.{Head, if_head, while_head, for_head, basic, head, finish, pieces_rules, unbraced, Inside, Insides, braces, block_of, as_block, Deeper, stmt, block, body, deeper_at}
-use Rattle.wg_tree.specs.ReadsExpr.{Reads}
+use Rattle.wg_tree.specs.GrammarExpr.{Phrase}
+use Rattle.wg_tree.specs.GrammarStmt.{Head, if_head, while_head, for_head, basic, head, finish, hole_rules, unbraced, Inside, Insides, braces, block_of, as_block, Deeper, stmt, block, body, deeper_at}
+use Rattle.wg_tree.specs.ReadsExpr.{TokenReader}
 use Rattle.wg_tree.specs.ReadsStmt.{head_starts, basic_starts, brace, stmt_starts, inside_edges, read_unbraced, Below, read_stmt, read_block, below_at}
 use Rattle.wg_tree.proofs.Examples.{example}
 use Rattle.wg_tree.proofs.StmtDecides.{basic_decides, head_decides, braces_decides}
@@ -32,7 +32,7 @@ inside_rules m d L = record { room = true; here = d; below = d; rule = λ k. stm
 
 module _ (m : ℕ) (d : Depth) (L : Deeper) where
   unbraced_opens : Opens (unbraced m d L.body) []
-  unbraced_opens = opens_as (spells class (pieces_rules m d) basic) (unbraced m d L.body) [] (λ x i r. inr) (pieces_open m d basic basic_decides)
+  unbraced_opens = opens_as (spells class (hole_rules m d) basic) (unbraced m d L.body) [] (λ x i r. inr) (pieces_open m d basic basic_decides)
 
   stmt_opens : Opens (stmt m d L) []
   stmt_opens = opens_as (unbraced m d L.body) (stmt m d L) [] (λ x i r. inr) unbraced_opens
@@ -43,7 +43,7 @@ module _ (m : ℕ) (d : Depth) (L : Deeper) where
   body_opens : Opens (body m d L) []
   body_opens = opens_as (unbraced m d L.body) (body m d L) [] (λ x i r. inr) unbraced_opens
 
-finish_opens : (P : Rule Stmt) (d : Depth) → Opens P [] → (h : Head) → Opens (finish P d h) []
+finish_opens : (P : Phrase Stmt) (d : Depth) → Opens P [] → (h : Head) → Opens (finish P d h) []
 finish_opens P d o (if_head a place t) = (o.0, s.If a place t o.1 None, λ r. (o.1, r, o.2 r, inl (refl, refl)))
 finish_opens P d o (while_head a place t) = (o.0, s.While a place t o.1, λ r. (o.1, r, o.2 r, (refl, refl)))
 finish_opens P d o (for_head a place h) = (o.0, s.For a place h o.1, λ r. (o.1, r, o.2 r, (refl, refl)))
@@ -66,12 +66,12 @@ module _ (ok : Type 0) (limit m : ℕ) (d : Depth) (here : Within limit d → �
   head_started : (ok → Opens L.body []) → (t : Token) → member (class t) head_starts ≡ true → Started (unbraced m d L.body) t
   head_started b t q =
       let k = pieces_started m d ok limit here below o head head_decides t q in
-      (k.0, k.1, λ z. opens_as (Seq (spells class (pieces_rules m d) head) (finish L.body d)) (unbraced m d L.body) ((t, k.0) ∷ []) (λ x i r. inl) (opens_then (spells class (pieces_rules m d) head) (finish L.body d) ((t, k.0) ∷ []) (k.2 z) (finish_opens L.body d (b z))))
+      (k.0, k.1, λ z. opens_as (Seq (spells class (hole_rules m d) head) (finish L.body d)) (unbraced m d L.body) ((t, k.0) ∷ []) (λ x i r. inl) (opens_then (spells class (hole_rules m d) head) (finish L.body d) ((t, k.0) ∷ []) (k.2 z) (finish_opens L.body d (b z))))
 
   basic_started : (t : Token) → member (class t) basic_starts ≡ true → Started (unbraced m d L.body) t
   basic_started t q =
       let k = pieces_started m d ok limit here below o basic basic_decides t q in
-      (k.0, k.1, λ z. opens_as (spells class (pieces_rules m d) basic) (unbraced m d L.body) ((t, k.0) ∷ []) (λ x i r. inr) (k.2 z))
+      (k.0, k.1, λ z. opens_as (spells class (hole_rules m d) basic) (unbraced m d L.body) ((t, k.0) ∷ []) (λ x i r. inr) (k.2 z))
 
   unbraced_started : (ok → Opens L.body []) → (t : Token) → member (class t) (head_starts ++ basic_starts) ≡ true → Started (unbraced m d L.body) t
   unbraced_started b t q = or_starts {A = Started (unbraced m d L.body) t} (class t) head_starts basic_starts q (head_started b t) (basic_started t)
@@ -94,10 +94,10 @@ module _ (ok : Type 0) (limit n m : ℕ) (l : n ≤ m) (o : ok → n + 2 ≤ m) 
     module _ (greedy : (ts : List Token) → Greedy (B.body ts)) (inner : f.Fine ok (Within limit) B.body L.body) where
       unbraced_fine : f.Fine ok (Within limit) (read_unbraced n B.body) (unbraced m d L.body)
       unbraced_fine = f.fine_if ok (Within limit) (sees (of class head_starts))
-          (f.fine_as ok (Within limit) {P = Seq (spells class (pieces_rules m d) head) (finish L.body d)} {Q = unbraced m d L.body} (λ x i r. inl) (f.fine_bind ok (Within limit) {Q = finish L.body d} (pieces_fine ok limit n m d s e l o head head_decides) (λ h. finish_fine n B.body greedy ok limit L.body d here inner h)))
-          (f.fine_as ok (Within limit) {P = spells class (pieces_rules m d) basic} {Q = unbraced m d L.body} (λ x i r. inr) (pieces_fine ok limit n m d s e l o basic basic_decides))
+          (f.fine_as ok (Within limit) {P = Seq (spells class (hole_rules m d) head) (finish L.body d)} {Q = unbraced m d L.body} (λ x i r. inl) (f.fine_bind ok (Within limit) {Q = finish L.body d} (pieces_fine ok limit n m d s e l o head head_decides) (λ h. finish_fine n B.body greedy ok limit L.body d here inner h)))
+          (f.fine_as ok (Within limit) {P = spells class (hole_rules m d) basic} {Q = unbraced m d L.body} (λ x i r. inr) (pieces_fine ok limit n m d s e l o basic basic_decides))
 
-      as_block_fine : (p : Reads (Place × List Stmt)) (P : Rule (Place × List Stmt)) → f.Fine ok (Within limit) p P → f.Fine ok (Within limit) (by_next (of class brace) (p >>= λ p. pure (block_of p)) (read_unbraced n B.body)) (as_block P or unbraced m d L.body)
+      as_block_fine : (p : TokenReader (Place × List Stmt)) (P : Phrase (Place × List Stmt)) → f.Fine ok (Within limit) p P → f.Fine ok (Within limit) (by_next (of class brace) (p >>= λ p. pure (block_of p)) (read_unbraced n B.body)) (as_block P or unbraced m d L.body)
       as_block_fine p P h = f.fine_if ok (Within limit) (sees (of class brace))
           (f.fine_as ok (Within limit) {P = as_block P} {Q = as_block P or unbraced m d L.body} (λ x i r. inl) (f.fine_bind ok (Within limit) {Q = λ p. None_of (block_of p)} h (λ p. f.fine_pure ok (Within limit) (block_of p))))
           (f.fine_as ok (Within limit) {P = unbraced m d L.body} {Q = as_block P or unbraced m d L.body} (λ x i r. inr) unbraced_fine)

@@ -1,5 +1,6 @@
 -- No `else` is left after an open statement that was read.
 use Rattle.std.proofs.Common.{◌≡◌, ℕ, zero, suc, Bool, true, false, List, [], ◌++◌, sym, ◌∙◌, ap, if◌then◌else◌, inl, inr, arith, Option}
+use Rattle.wg_tokens.specs.declared.mark.Mark.TheVariants as sign
 use Rattle.wg_words.specs.declared.place.Place.{Place}
 use Rattle.wg_tokens.specs.declared.token.Token.{Token}
 use Rattle.wg_tokens.specs.declared.keyword.Keyword.TheVariants as k
@@ -12,16 +13,16 @@ use Rattle.wg_tree.specs.declared.stmt.Stmt.{Stmt}
 use Rattle.wg_tree.specs.declared.stmt.Stmt.TheVariants as s
 use Rattle.wg_tree.specs.declared.stmt.Stmt.TheOpen.{Stmt-F}
 use Rattle.wg_tree.specs.declared.stmt.Stmt.TheFolds.{fold-roll-Stmt}
-use Rattle.wg_grammar.specs.Reading.{Outcome, Got, Wrong, Deep, and_then, ◌>>=◌, pure, sees, by_next}
-use Rattle.wg_grammar.specs.Parts.{Part, sub, of, reads, spells, ◌<*>◌, ◌<$>◌, ◌<*◌, ◌*>◌}
+use Rattle.wg_grammar.specs.Reading.{Reading, Got, Wrong, Deep, read_on, ◌>>=◌, pure, sees, by_next}
+use Rattle.wg_grammar.specs.Productions.{sub, of, reads, spells, ◌<*>◌, ◌<$>◌, ◌*>◌}
 use Rattle.wg_grammar.proofs.Inverse.{inv_give, inv_two, inv_left, inv_apply}
-use Rattle.wg_tree.specs.Symbols.{class}
+use Rattle.wg_tokens.specs.Classes.{class}
 use Rattle.wg_tree.specs.Depths.{Depth}
-use Rattle.wg_tree.specs.GrammarExpr.{mark, word, name, optional}
-use Rattle.wg_tree.specs.GrammarStmt.{declaration, const_declaration, a_step, object, record_objects, handle_objects, value, const, Pieces, Piece, a_value, a_const, opening, Head, basic, head, open_step, is_open, values_rules, pieces_rules, block_of}
+use Rattle.wg_tree.specs.GrammarExpr.{mark, word, name}
+use Rattle.wg_tree.specs.GrammarStmt.{declaration, const_declaration, a_step, object, record_objects, handle_objects, value, const, Head, basic, head, open_step, is_open, values_rules, hole_rules, block_of, value_part, const_part, some_value, unended}
 use Rattle.wg_tree.specs.GrammarItem.{outermost}
-use Rattle.wg_tree.specs.ReadsExpr.{Reads}
-use Rattle.wg_tree.specs.ReadsStmt.{pieces_edges, pieces_readers, head_starts, brace, stmt_starts, read_finish, read_unbraced, read_block, below_at}
+use Rattle.wg_tree.specs.ReadsExpr.{TokenReader}
+use Rattle.wg_tree.specs.ReadsStmt.{hole_edges, hole_readers, head_starts, brace, stmt_starts, read_finish, read_unbraced, read_block, below_at}
 use Rattle.wg_grammar.proofs.Fine as f
 use Rattle.wg_tree.specs.Depths.{Within}
 use Rattle.wg_tree.proofs.StmtDecides.{basic_decides}
@@ -55,63 +56,55 @@ return_closed p v = ap is_open (sym (s.rolls-Return p v)) ∙ fold-roll-Stmt Boo
 abbrev Cells : Type 0
 Cells = List (Token × Depth)
 
--- what stands before a `;`
+-- no statement without a body is open
 module _ (room : ℕ) (d : Depth) where
-  before_mark : (p : Part Token Pieces Piece Stmt) → ((x : Stmt) (i r : Cells) → spells class (pieces_rules room d) p x i r → is_open x ≡ false) → (x : Stmt) (i r : Cells) → spells class (pieces_rules room d) (p <* mark ";") x i r → is_open x ≡ false
-  before_mark p h x i r q = let a = inv_left class (pieces_rules room d) p (mark ";") x i r q in h x i a.1 a.2
-
   abbrev make_handle : ObjectType → Named → Expr → Stmt
   make_handle o n v = s.Handle o n v
 
   handle_of : (x : Stmt) (f : Expr → Stmt) (o : ObjectType) (n : Named) (v : Expr) → x ≡ f v → f ≡ make_handle o n → is_open x ≡ false
   handle_of x f o n v p q = ap is_open (p ∙ ap (λ g. g v) q) ∙ handle_closed o n v
 
-  basic_closed : (x : Stmt) (i r : Cells) → spells class (pieces_rules room d) basic x i r → is_open x ≡ false
-  basic_closed x i r (inl h) = let a = inv_give class (pieces_rules room d) (λ (p : Place). s.Empty p) (mark ";") x i r h in ap is_open a.2 ∙ empty_closed a.0
-  basic_closed x i r (inr (inl h)) = before_mark ((λ (d : Declaration). s.Declare d) <$> const_declaration (sub a_value) (sub a_const))
-      (λ x i r h. let a = inv_give class (pieces_rules room d) (λ (d : Declaration). s.Declare d) (const_declaration (sub a_value) (sub a_const)) x i r h in ap is_open a.2 ∙ declare_closed a.0) x i r h
-  basic_closed x i r (inr (inr (inl h))) = before_mark (sub opening) opened x i r h
-    where
-      opened : (x : Stmt) (i r : Cells) → spells class (pieces_rules room d) (sub opening) x i r → is_open x ≡ false
-      opened x i r (inl h) = let a = inv_give class (values_rules room d) (λ (d : Declaration). s.Declare d) (declaration (sub value) (sub const)) x i r h in ap is_open a.2 ∙ declare_closed a.0
-      opened x i r (inr h) = let a = inv_give class (values_rules room d) (λ (x : Step). s.Step x) (a_step (sub value)) x i r h in ap is_open a.2 ∙ step_closed a.0
-  basic_closed x i r (inr (inr (inr (inl h)))) = before_mark (make_handle <$> object (record_objects ++ handle_objects) <*> name <*> (mark "=" *> sub a_value))
-      (λ x i r h.
-      let a = inv_apply class (pieces_rules room d) (make_handle <$> object (record_objects ++ handle_objects) <*> name) (mark "=" *> sub a_value) x i r h in
-      let b = inv_two class (pieces_rules room d) make_handle (object (record_objects ++ handle_objects)) name a.0 i a.2 a.3 in
-      handle_of x a.0 b.0 b.1 a.1 a.5 b.5) x i r h
-  basic_closed x i r (inr (inr (inr (inr (inl h))))) = before_mark ((λ (p : Place). s.Break p) <$> word k.Break)
-      (λ x i r h. let a = inv_give class (pieces_rules room d) (λ (p : Place). s.Break p) (word k.Break) x i r h in ap is_open a.2 ∙ break_closed a.0) x i r h
-  basic_closed x i r (inr (inr (inr (inr (inr (inl h)))))) = before_mark ((λ (p : Place). s.Continue p) <$> word k.Continue)
-      (λ x i r h. let a = inv_give class (pieces_rules room d) (λ (p : Place). s.Continue p) (word k.Continue) x i r h in ap is_open a.2 ∙ continue_closed a.0) x i r h
-  basic_closed x i r (inr (inr (inr (inr (inr (inr h)))))) = before_mark ((λ (p : Place) (v : Option Expr). s.Return p v) <$> word k.Return <*> optional (sub a_value))
-      (λ x i r h. let a = inv_two class (pieces_rules room d) (λ (p : Place) (v : Option Expr). s.Return p v) (word k.Return) (optional (sub a_value)) x i r h in ap is_open a.5 ∙ return_closed a.0 a.1) x i r h
+  unended_closed : (x : Stmt) (i r : Cells) → spells class (hole_rules room d) unended x i r → is_open x ≡ false
+  unended_closed x i r (inl h) = let a = inv_give class (hole_rules room d) (λ (d : Declaration). s.Declare d) (const_declaration value_part const_part) x i r h in ap is_open a.2 ∙ declare_closed a.0
+  unended_closed x i r (inr (inl (inl h))) = let a = inv_give class (values_rules room d) (λ (d : Declaration). s.Declare d) (declaration (sub value) (sub const)) x i r h in ap is_open a.2 ∙ declare_closed a.0
+  unended_closed x i r (inr (inl (inr h))) = let a = inv_give class (values_rules room d) (λ (x : Step). s.Step x) (a_step (sub value)) x i r h in ap is_open a.2 ∙ step_closed a.0
+  unended_closed x i r (inr (inr (inl h))) =
+      let a = inv_apply class (hole_rules room d) (make_handle <$> object (record_objects ++ handle_objects) <*> name) (mark sign.Assign *> value_part) x i r h in
+      let b = inv_two class (hole_rules room d) make_handle (object (record_objects ++ handle_objects)) name a.0 i a.2 a.3 in
+      handle_of x a.0 b.0 b.1 a.1 a.5 b.5
+  unended_closed x i r (inr (inr (inr (inl h)))) = let a = inv_give class (hole_rules room d) (λ (p : Place). s.Break p) (word k.Break) x i r h in ap is_open a.2 ∙ break_closed a.0
+  unended_closed x i r (inr (inr (inr (inr (inl h))))) = let a = inv_give class (hole_rules room d) (λ (p : Place). s.Continue p) (word k.Continue) x i r h in ap is_open a.2 ∙ continue_closed a.0
+  unended_closed x i r (inr (inr (inr (inr (inr h))))) = let a = inv_two class (hole_rules room d) (λ (p : Place) (v : Option Expr). s.Return p v) (word k.Return) some_value x i r h in ap is_open a.5 ∙ return_closed a.0 a.1
 
-basic_greedy : (room : ℕ) (ts : List Token) → Greedy (reads class pieces_edges (pieces_readers room) basic ts)
-basic_greedy room ts = go (reads class pieces_edges (pieces_readers room) basic ts) ((pieces_fine ⊥ room room room outermost (omega arith) (omega arith) (omega arith) (λ z. absurd z) basic basic_decides).says ts)
+  basic_closed : (x : Stmt) (i r : Cells) → spells class (hole_rules room d) basic x i r → is_open x ≡ false
+  basic_closed x i r (inl h) = let a = inv_give class (hole_rules room d) (λ (p : Place). s.Empty p) (mark sign.Semicolon) x i r h in ap is_open a.2 ∙ empty_closed a.0
+  basic_closed x i r (inr h) = let a = inv_left class (hole_rules room d) unended (mark sign.Semicolon) x i r h in unended_closed x i a.1 a.2
+
+basic_greedy : (room : ℕ) (ts : List Token) → Greedy (reads class hole_edges (hole_readers room) basic ts)
+basic_greedy room ts = go (reads class hole_edges (hole_readers room) basic ts) ((pieces_fine ⊥ room room room outermost (omega arith) (omega arith) (omega arith) (λ z. absurd z) basic basic_decides).says ts)
   where
-    go : (o : Outcome Token Stmt) → f.Says ⊥ (Within room) (spells class (pieces_rules room outermost) basic) ts o → Greedy o
+    go : (o : Reading Token Stmt) → f.Says ⊥ (Within room) (spells class (hole_rules room outermost) basic) ts o → Greedy o
     go (Got x m) k = λ q. let c : is_open x ≡ false = basic_closed room outermost x (k.0 ++ []) [] (k.3 []) in absurd (let e : true ≡ false = sym q ∙ c in cc)
     go (Wrong b) k = tt
     go (Deep b) k = tt
 
-module _ (room : ℕ) (p : Reads Stmt) (greedy : (ts : List Token) → Greedy (p ts)) where
+module _ (room : ℕ) (p : TokenReader Stmt) (greedy : (ts : List Token) → Greedy (p ts)) where
   unbraced_greedy : (ts : List Token) → Greedy (read_unbraced room p ts)
   unbraced_greedy ts = go (sees (of class head_starts) ts)
     where
-      headed : (o : Outcome Token Head) → Greedy (and_then o (read_finish room p))
+      headed : (o : Reading Token Head) → Greedy (read_on o (read_finish room p))
       headed (Got h m) = finish_greedy room p greedy h m
       headed (Wrong b) = tt
       headed (Deep b) = tt
 
-      go : (v : Bool) → Greedy (if v then (reads class pieces_edges (pieces_readers room) head >>= read_finish room p) ts else reads class pieces_edges (pieces_readers room) basic ts)
-      go true = headed (reads class pieces_edges (pieces_readers room) head ts)
+      go : (v : Bool) → Greedy (if v then (reads class hole_edges (hole_readers room) head >>= read_finish room p) ts else reads class hole_edges (hole_readers room) basic ts)
+      go true = headed (reads class hole_edges (hole_readers room) head ts)
       go false = basic_greedy room ts
 
-  braced_greedy : (block : Reads (Place × List Stmt)) (ts : List Token) → Greedy (by_next (of class brace) (block >>= λ p. pure (block_of p)) (read_unbraced room p) ts)
+  braced_greedy : (block : TokenReader (Place × List Stmt)) (ts : List Token) → Greedy (by_next (of class brace) (block >>= λ p. pure (block_of p)) (read_unbraced room p) ts)
   braced_greedy block ts = go (sees (of class brace) ts)
     where
-      closed : (o : Outcome Token (Place × List Stmt)) → Greedy (and_then o (λ p. pure (block_of p)))
+      closed : (o : Reading Token (Place × List Stmt)) → Greedy (read_on o (λ p. pure (block_of p)))
       closed (Got p m) = λ q. absurd (let e : true ≡ false = sym q ∙ block_closed p.0 p.1 in cc)
       closed (Wrong b) = tt
       closed (Deep b) = tt

@@ -3,14 +3,14 @@ use Rattle.std.proofs.Common.{◌≡◌, ℕ, ◌+◌, ◌≤◌, List, [], ◌�
 use Rattle.std.proofs.lemmas.List.{append-nil, map-append, length-map}
 use Rattle.wg_tokens.specs.declared.token.Token.{Token}
 use Rattle.wg_tree.specs.declared.item.Source.{Source}
-use Rattle.wg_grammar.specs.Reading.{Outcome, Got, Wrong, Deep}
+use Rattle.wg_grammar.specs.Reading.{Reading, Got, Wrong, Deep}
 use Rattle.wg_grammar.specs.Depths.{plain, Shallow}
-use Rattle.wg_grammar.specs.Parts.{spells}
+use Rattle.wg_grammar.specs.Productions.{spells}
 use Rattle.wg_grammar.proofs.Kept.{SameHead, Kept}
 use Rattle.wg_grammar.proofs.Splits.{heads_same, compare, cut_plain, cut_next, shallow_front, shallow_at, first_same}
 use Rattle.wg_grammar.proofs.Fine as f
 use Rattle.wg_grammar.proofs.Limits.{cancel}
-use Rattle.wg_tree.specs.Symbols.{class}
+use Rattle.wg_tokens.specs.Classes.{class}
 use Rattle.wg_tree.specs.Depths.{Depth, Within}
 use Rattle.wg_tree.specs.GrammarItem.{text, outer_rules, Spells, IsViable}
 use Rattle.wg_tree.specs.ReadsItem.{read_text}
@@ -23,7 +23,7 @@ abbrev Cells : Type 0
 Cells = List (Token × Depth)
 
 abbrev Result : Type 0
-Result = Outcome Token Source
+Result = Reading Token Source
 
 got_deep : (x : Source) (b c : List Token) → ◌≡◌ {A = Result} (Got x b) (Deep c) → ⊥
 got_deep x b c e = cc

@@ -1,9 +1,9 @@
 -- What is read as a text is spelled so, and what was read before a fault can be completed.
 use Rattle.std.proofs.Common.{ℕ, ◌+◌, ◌≤◌, refl, arith}
-use Rattle.wg_grammar.specs.Parts.{spells}
+use Rattle.wg_grammar.specs.Productions.{spells}
 use Rattle.wg_grammar.proofs.Fine as f
 use Rattle.wg_grammar.proofs.PartFine.{part_fine}
-use Rattle.wg_tree.specs.Symbols.{class}
+use Rattle.wg_tokens.specs.Classes.{class}
 use Rattle.wg_tree.specs.Depths.{Within}
 use Rattle.wg_tree.specs.GrammarExpr.{constant, argument}
 use Rattle.wg_tree.specs.GrammarItem.{Outer, a_const, an_argument, a_block, text, outermost, outer_rules}

@@ -2,12 +2,12 @@
 use Rattle.std.proofs.Common.{◌≡◌, ℕ, zero, suc, ◌≤◌, false, List, [], ◌∷◌, ◌++◌, refl, sym, ◌∙◌, ap, inl, inr, ◌⊎◌, arith}
 use Rattle.wg_tokens.specs.declared.token.Token.{Token}
 use Rattle.wg_tree.specs.declared.item.Source.{Source}
-use Rattle.wg_grammar.specs.Reading.{Outcome, Got, Deep, sees}
+use Rattle.wg_grammar.specs.Reading.{Reading, Got, Deep, sees}
 use Rattle.wg_grammar.specs.Depths.{plain, Shallow}
-use Rattle.wg_grammar.specs.Parts.{of, spells, stops}
+use Rattle.wg_grammar.specs.Productions.{of, spells, stops}
 use Rattle.wg_grammar.proofs.Limits.{Limits, Through, Stuck}
 use Rattle.wg_grammar.proofs.PartLimits.{part_limits}
-use Rattle.wg_tree.specs.Symbols.{class}
+use Rattle.wg_tokens.specs.Classes.{class}
 use Rattle.wg_tree.specs.Depths.{Depth, Within}
 use Rattle.wg_tree.specs.GrammarExpr.{constant, argument}
 use Rattle.wg_tree.specs.GrammarItem.{Outer, a_const, an_argument, a_block, text, outermost, outer_rules, SpellsWithin, Spells}
@@ -36,7 +36,7 @@ deeper_ends room more l cells tree h = whole.ends tree cells [] h refl
     here = (omega arith, omega arith)
 
     whole : Limits (Within room) (read_text room) (spells class (outer_rules more) text) (λ _ ts. sees (of class (stops outer_edges text)) ts ≡ false)
-    whole = part_limits (Within room) class outer_edges example (outer_rules more) (λ n. (exact_outer more n).begins) (outer_readers room) here (λ q. here) (λ q. absurd (cc))
+    whole = part_limits (Within room) class outer_edges example (outer_rules more) (λ n. (exact_outer more n).begins_with) (outer_readers room) here (λ q. here) (λ q. absurd (cc))
         (record { room = λ e. e; kept = λ n. (exact_outer room n).self; eats = λ n. (exact_outer room n).eats }) (outer_limits room more l) text text_decides
 
 wider : (less room : ℕ) → less ≤ room → (cells : Cells) → Shallow (Within less) cells → Shallow (Within room) cells
@@ -52,7 +52,7 @@ read_ends less room l cells tree h (inr a) = absurd (let e = sym (complete less 
     plain_at [] t d r = refl
     plain_at (x ∷ f) t d r = ap (λ z. x.0 ∷ z) (plain_at f t d r)
 
-    clash : {b : List Token} → ◌≡◌ {A = Outcome Token Source} (Got tree []) (Deep b) → ⊥
+    clash : {b : List Token} → ◌≡◌ {A = Reading Token Source} (Got tree []) (Deep b) → ⊥
     clash q = cc
 
 pub ends : (room : ℕ) (cells : Cells) (tree : Source) → Spells cells tree → Ends room tree cells

@@ -1,5 +1,6 @@
 -- The grammar of statements, as a relation. This project's profile of HLSL.
 use Rattle.std.specs.Prelude.{◌≡◌, ℕ, zero, suc, ◌==◌, Bool, true, false, if◌then◌else◌, List, [], ◌∷◌, ◌++◌, Option, Some, None}
+use Rattle.wg_tokens.specs.declared.mark.Mark.TheVariants as sign
 use Rattle.wg_words.specs.declared.place.Place.{Place}
 use Rattle.wg_tokens.specs.declared.token.Token.{Token}
 use Rattle.wg_tokens.specs.declared.keyword.Keyword.{Keyword}
@@ -28,10 +29,10 @@ use Rattle.wg_tree.specs.declared.stmt.Stmt.TheVariants as s
 use Rattle.wg_tree.specs.declared.stmt.Stmt.TheOpen.{Stmt-F}
 use Rattle.wg_tree.specs.declared.stmt.Stmt.TheFolds.{fold-Stmt}
 use Rattle.wg_grammar.specs.Spans.{Seq, None_of, Leaf, Never, ◌or◌}
-use Rattle.wg_grammar.specs.Parts.{Part, give, token, list, sub, ◌<*>◌, ◌<$>◌, ◌<*◌, ◌*>◌, ◌<|>◌, Rules, of, spells}
-use Rattle.wg_tree.specs.Symbols.{mark_code, NAME, code, class}
+use Rattle.wg_grammar.specs.Productions.{Production, give, token, list, sub, ◌<*>◌, ◌<$>◌, ◌<*◌, ◌*>◌, ◌<|>◌, Rules, of, spells}
+use Rattle.wg_tokens.specs.Classes.{of_mark, NAME, of_word, class}
 use Rattle.wg_tree.specs.Depths.{Depth, in_statement}
-use Rattle.wg_tree.specs.GrammarExpr.{full, constant, argument, value_types, value_type_of, at_class, by_code, classes, named, mark, word, name, one_of, optional, Rule, expr_at}
+use Rattle.wg_tree.specs.GrammarExpr.{full, constant, argument, value_types, value_type_of, at_class, by_code, classes, placed_name, mark, word, name, one_of, optional, Phrase, expr_at}
 
 -- ---- what tokens spell
 
@@ -39,7 +40,7 @@ abbrev pub type_classes : List ℕ
 type_classes = NAME ∷ classes (by_code value_types)
 
 abbrev pub type_of : Token → TypeName
-type_of t = if class t == NAME then type_name.Struct (named t) else type_name.Value t.place (value_type_of t)
+type_of t = if class t == NAME then type_name.Struct (placed_name t) else type_name.Value t.place (value_type_of t)
 
 -- the objects with a record type
 abbrev pub record_objects : List (Keyword × ObjectWord)
@@ -57,14 +58,14 @@ abbrev pub object_word_of : Token → ObjectWord
 object_word_of t = at_class (by_code (record_objects ++ (handle_objects ++ empty_objects))) object_word.EmptyNodeInput (class t)
 
 abbrev pub assign_operators : List (ℕ × AssignOperator)
-assign_operators = (mark_code "=", assign.Plain) ∷ (mark_code "*=", assign.Multiply) ∷ (mark_code "/=", assign.Divide) ∷ (mark_code "%=", assign.Remainder) ∷ (mark_code "+=", assign.Add) ∷ (mark_code "-=", assign.Subtract)
-    ∷ (mark_code "<<=", assign.ShiftLeft) ∷ (mark_code ">>=", assign.ShiftRight) ∷ (mark_code "&=", assign.BitAnd) ∷ (mark_code "^=", assign.BitXor) ∷ (mark_code "|=", assign.BitOr) ∷ []
+assign_operators = (of_mark sign.Assign, assign.Plain) ∷ (of_mark sign.StarAssign, assign.Multiply) ∷ (of_mark sign.SlashAssign, assign.Divide) ∷ (of_mark sign.PercentAssign, assign.Remainder) ∷ (of_mark sign.PlusAssign, assign.Add) ∷ (of_mark sign.MinusAssign, assign.Subtract)
+    ∷ (of_mark sign.ShiftLeftAssign, assign.ShiftLeft) ∷ (of_mark sign.ShiftRightAssign, assign.ShiftRight) ∷ (of_mark sign.AmpersandAssign, assign.BitAnd) ∷ (of_mark sign.CaretAssign, assign.BitXor) ∷ (of_mark sign.BarAssign, assign.BitOr) ∷ []
 
 abbrev pub assign_operator : Token → AssignOperator
 assign_operator t = at_class assign_operators assign.Plain (class t)
 
 abbrev pub step_operators : List (ℕ × StepOperator)
-step_operators = (mark_code "++", step_operator.Increment) ∷ (mark_code "--", step_operator.Decrement) ∷ []
+step_operators = (of_mark sign.Increment, step_operator.Increment) ∷ (of_mark sign.Decrement, step_operator.Decrement) ∷ []
 
 abbrev pub step_operator_of : Token → StepOperator
 step_operator_of t = at_class step_operators step_operator.Increment (class t)
@@ -72,43 +73,76 @@ step_operator_of t = at_class step_operators step_operator.Increment (class t)
 -- ---- parts that hold expressions: value, a `const`, and an argument of an attribute
 
 module _ {N : Type 0} {Of : N → Type 0} where
-  abbrev pub a_type : Part Token N Of TypeName
+  abbrev pub a_type : Production Token N Of TypeName
   a_type = token false type_classes type_of
 
+  abbrev pub struct_type : Production Token N Of TypeName
+  struct_type = (λ n. type_name.Struct n) <$> name
+
+  abbrev pub type_of_values : Production Token N Of TypeName
+  type_of_values = (λ t. type_name.Value t.place (value_type_of t)) <$> one_of (classes (by_code value_types))
+
+  abbrev pub type_argument : Production Token N Of TypeName
+  type_argument = mark sign.Less *> a_type <* mark sign.Greater
+
+  -- an object of one of these classes, with its record type
+  abbrev pub typed_object : List ℕ → Production Token N Of ObjectType
+  typed_object set = (λ t r. record { place = t.place; word = object_word_of t; record_type = Some r }) <$> one_of set <*> type_argument
+
+  abbrev pub empty_object : Production Token N Of ObjectType
+  empty_object = (λ t. record { place = t.place; word = object_word_of t; record_type = None }) <$> one_of (classes (by_code empty_objects))
+
   -- an object, with these words besides the empty ones
-  abbrev pub object : List (Keyword × ObjectWord) → Part Token N Of ObjectType
-  object words = ((λ t r. record { place = t.place; word = object_word_of t; record_type = Some r }) <$> one_of (classes (by_code words)) <*> (mark "<" *> a_type <* mark ">"))
-      <|> ((λ t. record { place = t.place; word = object_word_of t; record_type = None }) <$> one_of (classes (by_code empty_objects)))
+  abbrev pub object : List (Keyword × ObjectWord) → Production Token N Of ObjectType
+  object words = typed_object (classes (by_code words)) <|> empty_object
 
-  abbrev pub size_of : Part Token N Of Expr → Part Token N Of (Option Expr)
-  size_of const = optional (mark "[" *> const <* mark "]")
+  abbrev pub size_of : Production Token N Of Expr → Production Token N Of (Option Expr)
+  size_of const = optional (mark sign.LeftBracket *> const <* mark sign.RightBracket)
 
-  abbrev pub attribute : Part Token N Of Expr → Part Token N Of Attribute
-  attribute an_expr = (λ place name arguments. record { place = place; name = name; arguments = arguments }) <$> mark "[" <*> name
-      <*> ((mark "(" *> ((λ x xs. x ∷ xs) <$> an_expr <*> list (mark "," *> an_expr)) <* mark ")") <|> give []) <* mark "]"
+  module _ (argument : Production Token N Of Expr) where
+    abbrev pub next_argument : Production Token N Of Expr
+    next_argument = mark sign.Comma *> argument
 
-  module _ (value const : Part Token N Of Expr) where
-    abbrev pub declarator : Part Token N Of Declarator
-    declarator = (λ name size value. record { name = name; size = size; value = value }) <$> name <*> size_of const <*> optional (mark "=" *> value)
+    abbrev pub some_arguments : Production Token N Of (List Expr)
+    some_arguments = (λ x xs. x ∷ xs) <$> argument <*> list next_argument
 
-    abbrev pub declaration : Part Token N Of Declaration
-    declaration = (λ of first rest. record { constant = None; of = of; first = first; rest = rest }) <$> a_type <*> declarator <*> list (mark "," *> declarator)
+    abbrev pub attribute_arguments : Production Token N Of (List Expr)
+    attribute_arguments = (mark sign.LeftParen *> some_arguments <* mark sign.RightParen) <|> give []
 
-    abbrev pub const_declaration : Part Token N Of Declaration
-    const_declaration = (λ place of first rest. record { constant = Some place; of = of; first = first; rest = rest }) <$> word k.Const <*> a_type <*> declarator <*> list (mark "," *> declarator)
+    abbrev pub attribute : Production Token N Of Attribute
+    attribute = (λ place name arguments. record { place = place; name = name; arguments = arguments }) <$> mark sign.LeftBracket <*> name <*> attribute_arguments <* mark sign.RightBracket
 
-  module _ (value : Part Token N Of Expr) where
+  module _ (value const : Production Token N Of Expr) where
+    abbrev pub start_value : Production Token N Of (Option Expr)
+    start_value = optional (mark sign.Assign *> value)
+
+    abbrev pub declarator : Production Token N Of Declarator
+    declarator = (λ name size value. record { name = name; size = size; value = value }) <$> name <*> size_of const <*> start_value
+
+    abbrev pub next_declarator : Production Token N Of Declarator
+    next_declarator = mark sign.Comma *> declarator
+
+    abbrev pub declaration : Production Token N Of Declaration
+    declaration = (λ of first rest. record { constant = None; of = of; first = first; rest = rest }) <$> a_type <*> declarator <*> list next_declarator
+
+    abbrev pub const_declaration : Production Token N Of Declaration
+    const_declaration = (λ place of first rest. record { constant = Some place; of = of; first = first; rest = rest }) <$> word k.Const <*> a_type <*> declarator <*> list next_declarator
+
+  module _ (value : Production Token N Of Expr) where
     -- what may follow the expression of a step
-    abbrev pub step_rest : Part Token N Of (Expr → Step)
+    abbrev pub step_rest : Production Token N Of (Expr → Step)
     step_rest = ((λ t value target. step.Assign target (assign_operator t) t.place value) <$> one_of (classes assign_operators) <*> value)
         <|> ((λ t target. step.After target (step_operator_of t) t.place) <$> one_of (classes step_operators))
         <|> give (λ value. step.Evaluate value)
 
-    abbrev pub a_step : Part Token N Of Step
+    abbrev pub a_step : Production Token N Of Step
     a_step = ((λ x rest. rest x) <$> value <*> step_rest) <|> ((λ t target. step.Before t.place (step_operator_of t) target) <$> one_of (classes step_operators) <*> value)
 
-    abbrev pub steps : Part Token N Of Steps
-    steps = (λ first rest. record { first = first; rest = rest }) <$> a_step <*> list (mark "," *> a_step)
+    abbrev pub next_step : Production Token N Of Step
+    next_step = mark sign.Comma *> a_step
+
+    abbrev pub steps : Production Token N Of Steps
+    steps = (λ first rest. record { first = first; rest = rest }) <$> a_step <*> list next_step
 
 -- ---- what begins as a declaration or as a step
 
@@ -119,33 +153,33 @@ pub data Values : Type 0 where
 abbrev pub Value : Values → Type 0
 Value n = Expr
 
-abbrev pub declared_stmt : Part Token Values Value Stmt
+abbrev pub declared_stmt : Production Token Values Value Stmt
 declared_stmt = (λ d. s.Declare d) <$> declaration (sub value) (sub const)
 
-abbrev pub stepped_stmt : Part Token Values Value Stmt
+abbrev pub stepped_stmt : Production Token Values Value Stmt
 stepped_stmt = (λ x. s.Step x) <$> a_step (sub value)
 
-abbrev pub declared_start : Part Token Values Value Start
+abbrev pub declared_start : Production Token Values Value Start
 declared_start = (λ d. start.Declare d) <$> declaration (sub value) (sub const)
 
-abbrev pub stepped_start : Part Token Values Value Start
+abbrev pub stepped_start : Production Token Values Value Start
 stepped_start = (λ x. start.Steps x) <$> steps (sub value)
 
 -- ---- statements up to the body that they have
 
-pub data Pieces : Type 0 where
-  a_value : Pieces
-  a_const : Pieces
-  an_argument : Pieces
-  opening : Pieces
-  starting : Pieces
+pub data StmtHole : Type 0 where
+  a_value : StmtHole
+  a_const : StmtHole
+  an_argument : StmtHole
+  opening : StmtHole
+  starting : StmtHole
 
-abbrev pub Piece : Pieces → Type 0
-Piece a_value = Expr
-Piece a_const = Expr
-Piece an_argument = Expr
-Piece opening = Stmt
-Piece starting = Start
+abbrev pub HoleTree : StmtHole → Type 0
+HoleTree a_value = Expr
+HoleTree a_const = Expr
+HoleTree an_argument = Expr
+HoleTree opening = Stmt
+HoleTree starting = Start
 
 -- what stands before the body of an `if`, a `while` or a `for`
 pub data Head : Type 0 where
@@ -153,29 +187,68 @@ pub data Head : Type 0 where
   while_head : List Attribute → Place → Expr → Head
   for_head : List Attribute → Place → Header → Head
 
-abbrev pub basic : Part Token Pieces Piece Stmt
-basic = ((λ place. s.Empty place) <$> mark ";")
-    <|> (((λ d. s.Declare d) <$> const_declaration (sub a_value) (sub a_const)) <* mark ";")
-    <|> (sub opening <* mark ";")
-    <|> (((λ of name value. s.Handle of name value) <$> object (record_objects ++ handle_objects) <*> name <*> (mark "=" *> sub a_value)) <* mark ";")
-    <|> (((λ place. s.Break place) <$> word k.Break) <* mark ";")
-    <|> (((λ place. s.Continue place) <$> word k.Continue) <* mark ";")
-    <|> (((λ place value. s.Return place value) <$> word k.Return <*> optional (sub a_value)) <* mark ";")
+abbrev pub value_part : Production Token StmtHole HoleTree Expr
+value_part = sub a_value
 
-abbrev pub condition : Part Token Pieces Piece Expr
-condition = mark "(" *> sub a_value <* mark ")"
+abbrev pub const_part : Production Token StmtHole HoleTree Expr
+const_part = sub a_const
 
-abbrev pub header : Part Token Pieces Piece Header
+abbrev pub some_value : Production Token StmtHole HoleTree (Option Expr)
+some_value = optional value_part
+
+abbrev pub empty_stmt : Production Token StmtHole HoleTree Stmt
+empty_stmt = (λ place. s.Empty place) <$> mark sign.Semicolon
+
+abbrev pub const_stmt : Production Token StmtHole HoleTree Stmt
+const_stmt = (λ d. s.Declare d) <$> const_declaration value_part const_part
+
+abbrev pub handle_stmt : Production Token StmtHole HoleTree Stmt
+handle_stmt = (λ of name value. s.Handle of name value) <$> object (record_objects ++ handle_objects) <*> name <*> (mark sign.Assign *> value_part)
+
+abbrev pub break_stmt : Production Token StmtHole HoleTree Stmt
+break_stmt = (λ place. s.Break place) <$> word k.Break
+
+abbrev pub continue_stmt : Production Token StmtHole HoleTree Stmt
+continue_stmt = (λ place. s.Continue place) <$> word k.Continue
+
+abbrev pub return_stmt : Production Token StmtHole HoleTree Stmt
+return_stmt = (λ place value. s.Return place value) <$> word k.Return <*> some_value
+
+-- a statement without a body, up to the `;` at its end
+abbrev pub unended : Production Token StmtHole HoleTree Stmt
+unended = const_stmt <|> sub opening <|> handle_stmt <|> break_stmt <|> continue_stmt <|> return_stmt
+
+abbrev pub ended_stmt : Production Token StmtHole HoleTree Stmt
+ended_stmt = unended <* mark sign.Semicolon
+
+abbrev pub basic : Production Token StmtHole HoleTree Stmt
+basic = empty_stmt <|> ended_stmt
+
+abbrev pub condition : Production Token StmtHole HoleTree Expr
+condition = mark sign.LeftParen *> value_part <* mark sign.RightParen
+
+-- what a `for` begins with, if anything
+abbrev pub first_start : Production Token StmtHole HoleTree (Option Start)
+first_start = optional (((λ d. start.Declare d) <$> const_declaration value_part const_part) <|> sub starting)
+
+abbrev pub some_steps : Production Token StmtHole HoleTree (Option Steps)
+some_steps = optional (steps value_part)
+
+abbrev pub header : Production Token StmtHole HoleTree Header
 header = (λ start test steps. record { start = start; test = test; steps = steps })
-    <$> (mark "(" *> optional (((λ d. start.Declare d) <$> const_declaration (sub a_value) (sub a_const)) <|> sub starting))
-    <*> (mark ";" *> optional (sub a_value))
-    <*> (mark ";" *> optional (steps (sub a_value)) <* mark ")")
+    <$> (mark sign.LeftParen *> first_start) <*> (mark sign.Semicolon *> some_value) <*> (mark sign.Semicolon *> some_steps <* mark sign.RightParen)
 
-abbrev pub head : Part Token Pieces Piece Head
-head = (λ (attributes : List Attribute) (make : List Attribute → Head). make attributes) <$> list (attribute (sub an_argument))
-    <*> (((λ place test attributes. if_head attributes place test) <$> word k.If <*> condition)
-    <|> ((λ place test attributes. while_head attributes place test) <$> word k.While <*> condition)
-    <|> ((λ place header attributes. for_head attributes place header) <$> word k.For <*> header))
+abbrev pub if_head_part : Production Token StmtHole HoleTree (List Attribute → Head)
+if_head_part = (λ place test attributes. if_head attributes place test) <$> word k.If <*> condition
+
+abbrev pub while_head_part : Production Token StmtHole HoleTree (List Attribute → Head)
+while_head_part = (λ place test attributes. while_head attributes place test) <$> word k.While <*> condition
+
+abbrev pub for_head_part : Production Token StmtHole HoleTree (List Attribute → Head)
+for_head_part = (λ place header attributes. for_head attributes place header) <$> word k.For <*> header
+
+abbrev pub head : Production Token StmtHole HoleTree Head
+head = (λ (attributes : List Attribute) (make : List Attribute → Head). make attributes) <$> list (attribute (sub an_argument)) <*> (if_head_part <|> while_head_part <|> for_head_part)
 
 -- ---- statements
 
@@ -191,10 +264,10 @@ abbrev pub is_open : Stmt → Bool
 is_open = fold-Stmt Bool open_step
 
 -- an `else` belongs to the nearest `if`: the branch before it is not open
-abbrev pub finish : Rule Stmt → Depth → Head → Rule Stmt
+abbrev pub finish : Phrase Stmt → Depth → Head → Phrase Stmt
 finish body d (if_head attributes place test) = Seq body (λ first.
     (None_of (s.If attributes place test first None))
-    or (λ x i r. (is_open first ≡ false) × Seq (Leaf (of class (code k.Else ∷ [])) (λ t. t.place) d) (λ p. Seq body (λ other. None_of (s.If attributes place test first (Some other)))) x i r))
+    or (λ x i r. (is_open first ≡ false) × Seq (Leaf (of class (of_word k.Else ∷ [])) (λ t. t.place) d) (λ p. Seq body (λ other. None_of (s.If attributes place test first (Some other)))) x i r))
 finish body d (while_head attributes place test) = Seq body (λ b. None_of (s.While attributes place test b))
 finish body d (for_head attributes place h) = Seq body (λ b. None_of (s.For attributes place h b))
 
@@ -207,18 +280,18 @@ module _ (room : ℕ) (d : Depth) where
   abbrev pub values_rules : Rules Token Depth Values Value
   values_rules = record { room = true; here = d; below = d; rule = values_at (expr_at full room d) (expr_at constant room d) }
 
-  abbrev pub pieces_rule : (n : Pieces) → Rule (Piece n)
-  pieces_rule a_value = expr_at full room d
-  pieces_rule a_const = expr_at constant room d
-  pieces_rule an_argument = expr_at argument room d
-  pieces_rule opening = spells class values_rules declared_stmt or spells class values_rules stepped_stmt
-  pieces_rule starting = spells class values_rules declared_start or spells class values_rules stepped_start
+  abbrev pub hole_rule : (n : StmtHole) → Phrase (HoleTree n)
+  hole_rule a_value = expr_at full room d
+  hole_rule a_const = expr_at constant room d
+  hole_rule an_argument = expr_at argument room d
+  hole_rule opening = spells class values_rules declared_stmt or spells class values_rules stepped_stmt
+  hole_rule starting = spells class values_rules declared_start or spells class values_rules stepped_start
 
-  abbrev pub pieces_rules : Rules Token Depth Pieces Piece
-  pieces_rules = record { room = true; here = d; below = d; rule = pieces_rule }
+  abbrev pub hole_rules : Rules Token Depth StmtHole HoleTree
+  hole_rules = record { room = true; here = d; below = d; rule = hole_rule }
 
-  abbrev pub unbraced : Rule Stmt → Rule Stmt
-  unbraced body = Seq (spells class pieces_rules head) (finish body d) or spells class pieces_rules basic
+  abbrev pub unbraced : Phrase Stmt → Phrase Stmt
+  unbraced body = Seq (spells class hole_rules head) (finish body d) or spells class hole_rules basic
 
 pub data Inside : Type 0 where
   statement : Inside
@@ -226,29 +299,29 @@ pub data Inside : Type 0 where
 abbrev pub Insides : Inside → Type 0
 Insides n = Stmt
 
-abbrev pub braces : Part Token Inside Insides (Place × List Stmt)
-braces = (λ place body. (place, body)) <$> mark "{" <*> list (sub statement) <* mark "}"
+abbrev pub braces : Production Token Inside Insides (Place × List Stmt)
+braces = (λ place body. (place, body)) <$> mark sign.LeftBrace <*> list (sub statement) <* mark sign.RightBrace
 
 abbrev pub block_of : Place × List Stmt → Stmt
 block_of p = s.Block p.0 p.1
 
-abbrev pub as_block : Rule (Place × List Stmt) → Rule Stmt
+abbrev pub as_block : Phrase (Place × List Stmt) → Phrase Stmt
 as_block P = Seq P (λ p. None_of (block_of p))
 
 -- what stands one statement deeper: a block, and a body
 pub record Deeper : Type 1 where
-  pub block : Rule (Place × List Stmt)
-  pub body : Rule Stmt
+  pub block : Phrase (Place × List Stmt)
+  pub body : Phrase Stmt
 
 module _ (room : ℕ) (d : Depth) (inner : Deeper) where
-  abbrev pub stmt : Rule Stmt
+  abbrev pub stmt : Phrase Stmt
   stmt = as_block inner.block or unbraced room d inner.body
 
-  abbrev pub block : Rule (Place × List Stmt)
+  abbrev pub block : Phrase (Place × List Stmt)
   block = spells class (record { room = true; here = d; below = d; rule = λ n. stmt }) braces
 
   -- a block that is a body counts once
-  abbrev pub body : Rule Stmt
+  abbrev pub body : Phrase Stmt
   body = as_block block or unbraced room d inner.body
 
 -- depth: how much deeper statements may go, and room, expressions

@@ -133,7 +133,7 @@ pub enum Stmt {
         place: Place,
     },
     Declare {
-        declaration: Declaration,
+        declaration: Boxed<Declaration>,
     },
     Handle {
         of: ObjectType,
@@ -169,7 +169,7 @@ pub enum Stmt {
     For {
         attributes: Items<Attribute>,
         place: Place,
-        header: Header,
+        header: Boxed<Header>,
         body: Boxed<Stmt>,
     },
 }

@@ -1,7 +1,7 @@
 use Rattle.std.proofs.Common.{◌≡◌, ◌∙◌, sym, ap, subst, Err}
 use Rattle.wg_tree.specs.ReadsItem.{read_text}
 use Rattle.wg_tree.specs.ParseFaults.{spelled, expected, too_deep, IsExpected, IsTooDeep}
-use Rattle.wg_cursor.specs.Gives.{Halts}
+use Rattle.wg_cursor.specs.IsReading.{Halts}
 use Rattle.wg_parse.proofs.Answering.{told, says, all_read, some_left}
 use Rattle.wg_parse.proofs.parsing.parse_within.Goals as goal
 

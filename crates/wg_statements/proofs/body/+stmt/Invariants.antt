@@ -1,7 +1,7 @@
 use Rattle.std.proofs.Common.{◌≡◌, ◌+◌, ◌-◌, ◌*◌}
 use Rattle.wg_grammar.specs.Reading.{many, many_from}
-use Rattle.wg_grammar.specs.Parts.{of}
-use Rattle.wg_tree.specs.Symbols.{class}
+use Rattle.wg_grammar.specs.Productions.{of}
+use Rattle.wg_tokens.specs.Classes.{class}
 use Rattle.wg_tree.specs.ReadsStmt as reads
 use Rattle.wg_cursor.specs.Turns.{with_front}
 use Rattle.wg_statements.proofs.body.+stmt.Given as goal
@@ -32,4 +32,4 @@ decreases-stmts l = 8 * l.depth + 5
 
 abbrev pub invariant-stmts-loop-turn : goal.invariant-stmts-loop-turn
 invariant-stmts-loop-turn l =
-    with_front l.found (many_from (of class reads.stmt_starts) (reads.read_stmt l.room (reads.below_at l.room l.depth)) (l._turn-end - l._turn) l.cursor) ≡ many (of class reads.stmt_starts) (reads.read_stmt l.room (reads.below_at l.room l.depth)) l.fn.cursor
+    with_front l.found.items (many_from (of class reads.stmt_starts) (reads.read_stmt l.room (reads.below_at l.room l.depth)) (l._turn-end - l._turn) l.cursor) ≡ many (of class reads.stmt_starts) (reads.read_stmt l.room (reads.below_at l.room l.depth)) l.fn.cursor

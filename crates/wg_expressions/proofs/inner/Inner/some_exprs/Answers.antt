@@ -1,24 +1,25 @@
 use Rattle.std.proofs.Common.{◌∙◌, sym, [], ◌∷◌}
 use Rattle.std.proofs.lemmas.Result.{err_from_is_err_and}
+use Rattle.wg_tokens.specs.declared.mark.Mark.TheVariants as sign
 use Rattle.wg_tree.specs.GrammarExpr as grammar
-use Rattle.wg_tree.specs.Symbols.{class, mark_code}
-use Rattle.wg_grammar.specs.Parts.{of}
-use Rattle.wg_expressions.specs.Rooms.{read, comma_expr}
+use Rattle.wg_tokens.specs.Classes.{class, of_mark}
+use Rattle.wg_grammar.specs.Productions.{of}
+use Rattle.wg_expressions.specs.Rooms.{read}
 use Rattle.wg_expressions.proofs.inner.Inner.some_exprs.Goals as goal
 
 pub returns-then-not-sees : goal.returns-then-not-sees
 returns-then-not-sees g c =
-    c.read_by_turns.ensures.ends (of class (mark_code "," ∷ [])) (read c.args.self.now.kind c.args.self.now.room comma_expr) c.left-turn-end.result c.loop-turn._turn c.loop-turn.found c.loop-turn.cursor (read c.args.self.now.kind c.args.self.now.room grammar.some_exprs c.args.cursor.now) c.loop-turn-test.true c.loop-turn.invariant
+    c.read_by_turns.ensures.ends (of class (of_mark sign.Comma ∷ [])) (read c.args.self.now.kind c.args.self.now.room grammar.comma_expr) c.left-turn-end.result c.loop-turn._turn c.loop-turn.found c.loop-turn.cursor (read c.args.self.now.kind c.args.self.now.room grammar.some_exprs c.args.cursor.now) c.loop-turn-test.true c.loop-turn.invariant
     (sym c.sees.ensures ∙ c.if-not-sees.true)
 
 pub returns-in_err-comma_expr : goal.returns-in_err-comma_expr
 returns-in_err-comma_expr g c =
     let p = err_from_is_err_and c.from_residual-in_err-comma_expr.result c.from_residual-in_err-comma_expr.ensures.1 in
     rw (p.1, p.2)
-    (c.read_by_turns.ensures.halts (of class (mark_code "," ∷ [])) (read c.args.self.now.kind c.args.self.now.room comma_expr) c.left-turn-end.result c.loop-turn._turn c.loop-turn.found c.loop-turn.cursor (read c.args.self.now.kind c.args.self.now.room grammar.some_exprs c.args.cursor.now) c.loop-turn-test.true c.loop-turn.invariant
+    (c.read_by_turns.ensures.halts (of class (of_mark sign.Comma ∷ [])) (read c.args.self.now.kind c.args.self.now.room grammar.comma_expr) c.left-turn-end.result c.loop-turn._turn c.loop-turn.found c.loop-turn.cursor (read c.args.self.now.kind c.args.self.now.room grammar.some_exprs c.args.cursor.now) c.loop-turn-test.true c.loop-turn.invariant
     _ _ (sym c.sees.ensures ∙ c.if-not-sees.false) c.in_err-comma_expr.ensures)
 
 pub loop-turn-preserved : goal.loop-turn-preserved
 loop-turn-preserved g c =
-    c.read_by_turns.ensures.goes_on (of class (mark_code "," ∷ [])) (read c.args.self.now.kind c.args.self.now.room comma_expr) c.left-turn-end.result c.loop-turn._turn c.loop-turn.found c.loop-turn.cursor (read c.args.self.now.kind c.args.self.now.room grammar.some_exprs c.args.cursor.now) c.loop-turn-test.true c.loop-turn.invariant
+    c.read_by_turns.ensures.goes_on (of class (of_mark sign.Comma ∷ [])) (read c.args.self.now.kind c.args.self.now.room grammar.comma_expr) c.left-turn-end.result c.loop-turn._turn c.loop-turn.found c.loop-turn.cursor (read c.args.self.now.kind c.args.self.now.room grammar.some_exprs c.args.cursor.now) c.loop-turn-test.true c.loop-turn.invariant
     _ _ _ c.in_ok-push-2.ensures.ok (sym c.sees.ensures ∙ c.if-not-sees.false) c.in_ok-comma_expr.ensures

@@ -1,11 +1,12 @@
 use Rattle.std.proofs.Common.{◌≡◌, ◌-◌, [], ◌∷◌}
+use Rattle.wg_tokens.specs.declared.mark.Mark.TheVariants as sign
 use Rattle.wg_tree.specs.GrammarExpr as grammar
-use Rattle.wg_tree.specs.Symbols.{class, mark_code}
-use Rattle.wg_grammar.specs.Parts.{of}
+use Rattle.wg_tokens.specs.Classes.{class, of_mark}
+use Rattle.wg_grammar.specs.Productions.{of}
 use Rattle.wg_grammar.specs.Reading.{many_from}
-use Rattle.wg_expressions.specs.Rooms.{read, comma_expr}
+use Rattle.wg_expressions.specs.Rooms.{read}
 use Rattle.wg_cursor.specs.Turns.{with_front}
 use Rattle.wg_expressions.proofs.inner.Inner.some_exprs.Given as goal
 
 abbrev pub invariant-loop-turn : goal.invariant-loop-turn
-invariant-loop-turn g l = with_front l.found (many_from (of class (mark_code "," ∷ [])) (read l.self.kind l.self.room comma_expr) (l._turn-end - l._turn) l.cursor) ≡ read l.self.kind l.self.room grammar.some_exprs l.fn.cursor
+invariant-loop-turn g l = with_front l.found (many_from (of class (of_mark sign.Comma ∷ [])) (read l.self.kind l.self.room grammar.comma_expr) (l._turn-end - l._turn) l.cursor) ≡ read l.self.kind l.self.room grammar.some_exprs l.fn.cursor

@@ -1,4 +1,0 @@
-pub mod AttributePieces
-pub mod PartReads
-pub mod StmtPieces
-pub mod TypePieces

@@ -8,7 +8,7 @@ use Rattle.wg_state.specs.Turns.{Action, Ending, Spent, Done, and_then, ◌>>=�
 use Rattle.wg_code.specs.declared.op.Op.{Op, roll-Op, fold-roll-Op, ind-Op, map-Op}
 use Rattle.wg_code.specs.declared.op.Op.TheOpen.{Op-F}
 use Rattle.wg_code.specs.Lane.{Around, Site, Exit, Through, Out, Again, Wrong, get_all, set_all, puts, with_ranged}
-use Rattle.wg_code.specs.Flow.{Outside, Callees, through, goes_on, turns_below, loop, with_registers, give_back}
+use Rattle.wg_code.specs.Flow.{Outside, Callees, through, goes_on, stepped, body_then_step, tested, one_turn, repeats, turns_below, loop, with_registers, give_back}
 use Rattle.wg_code.specs.Named.{Tables, names_there, takes}
 use Rattle.wg_code.specs.OpMeaning.{does, tables_of, op_step, op_does, ops_do}
 use Rattle.wg_code.specs.Operators.{is_comparison}
@@ -94,9 +94,30 @@ module _ (s : Bool) (r sh : ℕ) where
 -- ---- loops
 
 module _ (s : Bool) (r sh a : ℕ) (T U B D S V : Action Site Exit) (tests : Alike true r sh T U) (bodies : Alike true r sh B D) (steps : Alike true r sh S V) where
+  again_alike : Alike true r sh (pure Again) (pure Again)
+  again_alike = λ f t e1 e2. (refl, (refl, e1, e2))
+
+  stepped_alike : Alike true r sh (stepped S) (stepped V)
+  stepped_alike = bind_alike true true r sh S V _ _ steps (goes_on_alike true r sh _ _ again_alike)
+
+  entered_alike : Alike true r sh (turn >> body_then_step B S) (turn >> body_then_step D V)
+  entered_alike = turn_alike true r sh (body_then_step B S) (body_then_step D V) (bind_alike true true r sh B D _ _ bodies (goes_on_alike true r sh _ _ stepped_alike))
+
+  tested_alike : Alike true r sh (tested a B S) (tested a D V)
+  tested_alike f t e1 e2 = if_alike true r sh (is_true (slice_index f.registers a)) _ _ _ _ entered_alike (pure_alike true r sh) f t e1 e2
+
+  turn_ends_alike : Alike true r sh (one_turn T a B S) (one_turn U a D V)
+  turn_ends_alike = bind_alike true true r sh T U _ _ tests (goes_on_alike true r sh _ _ tested_alike)
+
+  repeats_alike : (m n : Action Site Exit) → Alike s r sh m n → (exit : Exit) → ExitFits true exit → Alike s r sh (repeats exit m) (repeats exit n)
+  repeats_alike m n h Through g = pure_alike s r sh
+  repeats_alike m n h Out g = pure_alike s r sh
+  repeats_alike m n h Again g = h
+  repeats_alike m n h Wrong g = absurd g
+
   turns_alike : (bound : ℕ) → Alike s r sh (turns_below bound T a B S) (turns_below bound U a D V)
   turns_alike zero = λ f t e1 e2. (refl, tt)
-  turns_alike (suc bound) = bind_alike s true r sh T U _ _ tests (goes_on_alike s r sh _ _ (λ f t e1 e2. if_alike s r sh (is_true (slice_index f.registers a)) _ _ _ _ (bind_alike s true r sh (turn >> B) (turn >> D) _ _ (turn_alike true r sh B D bodies) (goes_on_alike s r sh _ _ (bind_alike s true r sh S V _ _ steps (goes_on_alike s r sh _ _ (turns_alike bound))))) (pure_alike s r sh) f t e1 e2))
+  turns_alike (suc bound) = bind_alike s true r sh (one_turn T a B S) (one_turn U a D V) _ _ turn_ends_alike (repeats_alike _ _ (turns_alike bound))
 
   pub loop_alike : Alike s r sh (loop T a B S) (loop U a D V)
   loop_alike f t e1 e2 = turns_alike (suc t) f t e1 e2
@@ -137,9 +158,9 @@ module _ (k : Scope) (A : Around) (r sh : ℕ) (C D : Callees) where
 
 module _ (k : Scope) (A : Around) (r sh : ℕ) (tables : k.tables ≡ tables_of A r sh) (C D : Callees) (calls : CalleesAlike A k.depth sh C D) where
   -- what is named is there, so the test passes
-  tested : (op : Op-F Act) → names_there k.tables op ≡ true → (f : Site) (t : ℕ) → length f.registers ≡ r → length f.shared ≡ sh
+  test_passes : (op : Op-F Act) → names_there k.tables op ≡ true → (f : Site) (t : ℕ) → length f.registers ≡ r → length f.shared ≡ sh
       → op_step true A C op f t ≡ does A C op f t
-  tested op there f t e1 e2 =
+  test_passes op there f t e1 e2 =
       let here : tables_of A (length f.registers) (length f.shared) ≡ k.tables = ap (λ n. tables_of A n (length f.shared)) e1 ∙ (ap (λ n. tables_of A r n) e2 ∙ sym tables) in
       let passes : names_there (tables_of A (length f.registers) (length f.shared)) op ≡ true = ap (λ T. names_there T op) here ∙ there in
       rw passes refl
@@ -149,7 +170,7 @@ module _ (k : Scope) (A : Around) (r sh : ℕ) (tables : k.tables ≡ tables_of 
       → ((f : Site) (t : ℕ) → does A C op f t ≡ does A D op f t)
       → ((f : Site) (t : ℕ) → length f.registers ≡ r → length f.shared ≡ sh → Fits s r sh (does A D op f t))
       → Alike s r sh (op_step true A C op) (op_step false A D op)
-  simple s op rest valid same fits f t e1 e2 = (tested op (left (names_there k.tables op) rest valid) f t e1 e2 ∙ same f t, fits f t e1 e2)
+  simple s op rest valid same fits f t e1 e2 = (test_passes op (left (names_there k.tables op) rest valid) f t e1 e2 ∙ same f t, fits f t e1 e2)
 
   in_order_alike : (s : Bool) (ops : List Op) → Each (Runs k A r sh C D) ops → all_valid s (map (is_valid k) ops) ≡ true → Alike s r sh (ops_do true A C ops) (ops_do false A D ops)
   in_order_alike s [] runs valid = pure_alike s r sh
@@ -203,13 +224,13 @@ module _ (k : Scope) (A : Around) (r sh : ℕ) (tables : k.tables ≡ tables_of 
       let one = left (all_valid s (map (is_valid k) (map p first))) (all_valid s (map (is_valid k) (map p second))) both in
       let two = right (all_valid s (map (is_valid k) (map p first))) (all_valid s (map (is_valid k) (map p second))) both in
       let g = if_alike s r sh (is_true (slice_index f.registers a)) _ _ _ _ (in_order_alike s (map p first) (all_run p runs first) one) (in_order_alike s (map p second) (all_run p runs second) two) f t e1 e2 in
-      (tested (Op-F.If a (map (op_does true A C) (map p first)) (map (op_does true A C) (map p second))) (left (names_there {A = Act} k.tables (Op-F.If a [] [])) _ v) f t e1 e2 ∙ g.0, g.1)
+      (test_passes (Op-F.If a (map (op_does true A C) (map p first)) (map (op_does true A C) (map p second))) (left (names_there {A = Act} k.tables (Op-F.If a [] [])) _ v) f t e1 e2 ∙ g.0, g.1)
   layer {B} p runs (Op-F.Loop test a body step) = λ s v f t e1 e2.
       let three = right (names_there {A = Act} k.tables (Op-F.Loop [] a [] [])) (true && (all_valid true (map (is_valid k) (map p test)) && (all_valid true (map (is_valid k) (map p body)) && all_valid true (map (is_valid k) (map p step))))) v in
       let one = left (all_valid true (map (is_valid k) (map p test))) _ three in
       let both = right (all_valid true (map (is_valid k) (map p test))) (all_valid true (map (is_valid k) (map p body)) && all_valid true (map (is_valid k) (map p step))) three in
       let g = loop_alike s r sh a _ _ _ _ _ _ (in_order_alike true (map p test) (all_run p runs test) one) (in_order_alike true (map p body) (all_run p runs body) (left (all_valid true (map (is_valid k) (map p body))) (all_valid true (map (is_valid k) (map p step))) both)) (in_order_alike true (map p step) (all_run p runs step) (right (all_valid true (map (is_valid k) (map p body))) (all_valid true (map (is_valid k) (map p step))) both)) f t e1 e2 in
-      (tested (Op-F.Loop (map (op_does true A C) (map p test)) a (map (op_does true A C) (map p body)) (map (op_does true A C) (map p step))) (left (names_there {A = Act} k.tables (Op-F.Loop [] a [] [])) _ v) f t e1 e2 ∙ g.0, g.1)
+      (test_passes (Op-F.Loop (map (op_does true A C) (map p test)) a (map (op_does true A C) (map p body)) (map (op_does true A C) (map p step))) (left (names_there {A = Act} k.tables (Op-F.Loop [] a [] [])) _ v) f t e1 e2 ∙ g.0, g.1)
   layer p runs Op-F.Break = λ s v. simple s Op-F.Break _ v (λ f t. refl) (λ f t e1 e2. (left s true v, e1, e2))
   layer p runs Op-F.Continue = λ s v. simple s Op-F.Continue _ v (λ f t. refl) (λ f t e1 e2. (left s true v, e1, e2))
   layer p runs (Op-F.Call function args results) = λ s v f t e1 e2.
@@ -219,7 +240,7 @@ module _ (k : Scope) (A : Around) (r sh : ℕ) (tables : k.tables ≡ tables_of 
       let counts : takes (length (get_all args f)) (length results) (slice_get A.functions function) ≡ true =
       rw (length-map args (λ x. slice_index f.registers x)) (subst (λ (l : List _). takes (length args) (length results) (slice_get l function) ≡ true) known (left (takes (length args) (length results) (slice_get k.tables.functions function)) _ named)) in
       let goes = calls function (get_all args f) (length results) counts (subst (λ (l : List _). is_below k.depth (slice_get l function) ≡ true) known deep) (f.shared, f.world) t e2 in
-      (tested (Op-F.Call function args results) named f t e1 e2 ∙ ap (λ o. and_then (with_registers f.registers o) (give_back results)) goes.0, called_fits s r sh f results _ e1 goes.1)
+      (test_passes (Op-F.Call function args results) named f t e1 e2 ∙ ap (λ o. and_then (with_registers f.registers o) (give_back results)) goes.0, called_fits s r sh f results _ e1 goes.1)
   layer p runs (Op-F.Wide op d a b) = λ s v. simple s (Op-F.Wide op d a b) _ v (λ f t. refl) (λ f t e1 e2. wide_fits s r sh (is_comparison op) f d _ _ _ t e1 e2)
   layer p runs (Op-F.Half op d a b) = λ s v. simple s (Op-F.Half op d a b) _ v (λ f t. refl) (λ f t e1 e2. put_fits s f d _ t e1 e2)
   layer p runs (Op-F.Last d) = λ s v. simple s (Op-F.Last d) _ v (λ f t. refl) (λ f t e1 e2. put_fits s f d _ t e1 e2)

@@ -26,11 +26,28 @@ goes_on Again again = again
 goes_on Out again = pure Through
 goes_on Wrong again = pure Wrong
 
+abbrev pub stepped : Action Site Exit → Action Site Exit
+stepped step = step >>= (λ end. goes_on end (pure Again))
+
+abbrev pub body_then_step : Action Site Exit → Action Site Exit → Action Site Exit
+body_then_step body step = body >>= (λ end. goes_on end (stepped step))
+
+abbrev pub tested : ℕ → Action Site Exit → Action Site Exit → Action Site Exit
+tested a body step = get a >>= (λ go. if_set go (turn >> body_then_step body step) (pure Through))
+
+-- a test and the turn after it, if one is taken; it ends `Again` where the loop goes on
+abbrev pub one_turn : Action Site Exit → ℕ → Action Site Exit → Action Site Exit → Action Site Exit
+one_turn test a body step = test >>= (λ end. goes_on end (tested a body step))
+
+abbrev pub repeats : Exit → Action Site Exit → Action Site Exit
+repeats Through more = pure Through
+repeats Again more = more
+repeats Out more = pure Through
+repeats Wrong more = pure Wrong
+
 abbrev pub turns_below : ℕ → Action Site Exit → ℕ → Action Site Exit → Action Site Exit → Action Site Exit
 turns_below zero test a body step = λ f t. Spent
-turns_below (suc bound) test a body step = test >>= (λ tested. goes_on tested (do
-  go ← get a
-  if_set go (turn >> body >>= (λ end. goes_on end (step >>= (λ last. goes_on last (turns_below bound test a body step))))) (pure Through)))
+turns_below (suc bound) test a body step = one_turn test a body step >>= (λ end. repeats end (turns_below bound test a body step))
 
 -- each body entered takes one of the turns left, so the bound is never met
 abbrev pub loop : Action Site Exit → ℕ → Action Site Exit → Action Site Exit → Action Site Exit

@@ -215,3 +215,23 @@ pub const UINT3: Class = Class::Word {
 pub const UINT4: Class = Class::Word {
     keyword: Keyword::Uint4,
 };
+
+/// `int16_t`.
+pub const INT16: Class = Class::Word {
+    keyword: Keyword::Int16,
+};
+
+/// `uint16_t`.
+pub const UINT16: Class = Class::Word {
+    keyword: Keyword::Uint16,
+};
+
+/// `int64_t`.
+pub const INT64: Class = Class::Word {
+    keyword: Keyword::Int64,
+};
+
+/// `uint64_t`.
+pub const UINT64: Class = Class::Word {
+    keyword: Keyword::Uint64,
+};

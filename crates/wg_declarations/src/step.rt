@@ -29,9 +29,10 @@ const ASSIGN_OPERATORS: [Class; 11] = [
 const STEP_OPERATORS: [Class; 2] = [INCREMENT, DECREMENT];
 
 /// The classes with which a step begins.
-pub const STEP_STARTS: [Class; 24] = [
+pub const STEP_STARTS: [Class; 28] = [
     MINUS, PLUS, NOT, TILDE, NUMBER, ZERO, TRUE, FALSE, NAME, BOOL, BOOL2, BOOL3, BOOL4, INT, INT2,
-    INT3, INT4, UINT, UINT2, UINT3, UINT4, LEFT_PAREN, INCREMENT, DECREMENT,
+    INT3, INT4, UINT, UINT2, UINT3, UINT4, INT16, UINT16, INT64, UINT64, LEFT_PAREN, INCREMENT,
+    DECREMENT,
 ];
 
 const ASSIGNS: [(Class, AssignOperator); 11] = [

@@ -18,8 +18,9 @@ use wg_tokens::{Class, Token};
 use wg_tree::{ObjectType, ObjectWord, TypeName};
 
 /// The classes with which a type begins.
-pub const TYPES: [Class; 13] = [
-    NAME, BOOL, BOOL2, BOOL3, BOOL4, INT, INT2, INT3, INT4, UINT, UINT2, UINT3, UINT4,
+pub const TYPES: [Class; 17] = [
+    NAME, BOOL, BOOL2, BOOL3, BOOL4, INT, INT2, INT3, INT4, UINT, UINT2, UINT3, UINT4, INT16,
+    UINT16, INT64, UINT64,
 ];
 
 /// The objects of parameters that have a record type.

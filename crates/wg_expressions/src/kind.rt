@@ -5,21 +5,22 @@ ghost use Rattle.wg_cursor.specs.ClassSets.{numbers};
 ghost use Rattle.wg_expressions.specs.Kinds.{kind_of};
 
 use wg_cursor::symbols::{
-    BOOL, BOOL2, BOOL3, BOOL4, FALSE, INT, INT2, INT3, INT4, LEFT_PAREN, MINUS, NAME, NOT, NUMBER,
-    PLUS, TEXT, TILDE, TRUE, UINT, UINT2, UINT3, UINT4, ZERO,
+    BOOL, BOOL2, BOOL3, BOOL4, FALSE, INT, INT2, INT3, INT4, INT16, INT64, LEFT_PAREN, MINUS, NAME,
+    NOT, NUMBER, PLUS, TEXT, TILDE, TRUE, UINT, UINT2, UINT3, UINT4, UINT16, UINT64, ZERO,
 };
 use wg_tokens::Class;
 
 /// The classes of the types of values.
-pub const VALUE_TYPES: [Class; 12] = [
-    BOOL, BOOL2, BOOL3, BOOL4, INT, INT2, INT3, INT4, UINT, UINT2, UINT3, UINT4,
+pub const VALUE_TYPES: [Class; 16] = [
+    BOOL, BOOL2, BOOL3, BOOL4, INT, INT2, INT3, INT4, UINT, UINT2, UINT3, UINT4, INT16, UINT16,
+    INT64, UINT64,
 ];
 
 pub(crate) const PREFIX_OPERATORS: [Class; 4] = [MINUS, PLUS, NOT, TILDE];
 
-const STARTS: [Class; 22] = [
+const STARTS: [Class; 26] = [
     MINUS, PLUS, NOT, TILDE, NUMBER, ZERO, TRUE, FALSE, NAME, BOOL, BOOL2, BOOL3, BOOL4, INT, INT2,
-    INT3, INT4, UINT, UINT2, UINT3, UINT4, LEFT_PAREN,
+    INT3, INT4, UINT, UINT2, UINT3, UINT4, INT16, UINT16, INT64, UINT64, LEFT_PAREN,
 ];
 
 const CONSTANT_STARTS: [Class; 8] = [MINUS, PLUS, NOT, TILDE, NUMBER, ZERO, NAME, LEFT_PAREN];

@@ -6,14 +6,14 @@ ghost use Rattle.wg_tree.specs.GrammarExpr as grammar;
 
 use wg_cursor::symbols::{
     AMPERSAND, AND, AT_LEAST, AT_MOST, BAR, BOOL, BOOL2, BOOL3, BOOL4, CARET, EQUAL, GREATER, INT,
-    INT2, INT3, INT4, LESS, MINUS, NOT, NOT_EQUAL, OR, PERCENT, PLUS, SHIFT_LEFT, SHIFT_RIGHT,
-    SLASH, STAR, TILDE, UINT, UINT2, UINT3, UINT4,
+    INT2, INT3, INT4, INT16, INT64, LESS, MINUS, NOT, NOT_EQUAL, OR, PERCENT, PLUS, SHIFT_LEFT,
+    SHIFT_RIGHT, SLASH, STAR, TILDE, UINT, UINT2, UINT3, UINT4, UINT16, UINT64,
 };
 use wg_cursor::{at_class, class};
 use wg_tokens::{Class, Token};
 use wg_tree::{BinaryOperator, PrefixOperator, Scalar, ValueType};
 
-const VALUE_TYPES: [(Class, ValueType); 12] = [
+const VALUE_TYPES: [(Class, ValueType); 16] = [
     (BOOL, ValueType::Scalar { of: Scalar::Bool }),
     (
         BOOL2,
@@ -80,6 +80,10 @@ const VALUE_TYPES: [(Class, ValueType); 12] = [
             size: 4,
         },
     ),
+    (INT16, ValueType::Scalar { of: Scalar::Int16 }),
+    (UINT16, ValueType::Scalar { of: Scalar::Uint16 }),
+    (INT64, ValueType::Scalar { of: Scalar::Int64 }),
+    (UINT64, ValueType::Scalar { of: Scalar::Uint64 }),
 ];
 
 /// The type of values that a word names.

@@ -32,15 +32,21 @@ impl<F: Fn(Global, &mut Cursor<'_>, ExprKind, u32, Nested) -> Result<Expr, Halt>
         let token = cursor.take(&[NUMBER, ZERO])?;
         let place = token.place;
         match token.kind {
-            TokenKind::Number { value, unsigned } => Ok(Expr::Number {
+            TokenKind::Number {
+                value,
+                unsigned,
+                long,
+            } => Ok(Expr::Number {
                 place,
                 value,
                 unsigned,
+                long,
             }),
             _ => Ok(Expr::Number {
                 place,
                 value: 0,
                 unsigned: false,
+                long: false,
             }),
         }
     }

@@ -1,9 +1,9 @@
 -- What a text that is cut can break: at each place where a piece begins, one does.
-use Rattle.std.proofs.Common.{◌≡◌, ℕ, ◌+◌, ◌≤◌, Result, Ok, Err, IfErr, List, [], ◌∷◌, ◌++◌, length, take, drop, refl, sym, ◌∙◌, ap, subst, arith}
+use Rattle.std.proofs.Common.{◌≡◌, ℕ, ◌≤◌, Result, Ok, Err, IfErr, List, [], ◌∷◌, ◌++◌, length, take, drop, refl, ◌∙◌, ap, subst, arith}
 use Rattle.std.proofs.lemmas.List.{append-nil, length-drop}
 use Rattle.wg_tokens.specs.declared.token.Token.{Token}
 use Rattle.wg_tokens.specs.Cut.{Piece, IsLongest, BeginsWith, size_of, Cuts}
-use Rattle.wg_tokens.specs.LexicalRules.{LexicalRule, not_ascii, preprocessor, wide_literal, open_comment, stray_byte, most_bytes, IsBroken, Breaks, Keeps}
+use Rattle.wg_tokens.specs.LexicalRules.{LexicalRule, not_ascii, preprocessor, wide_literal, open_comment, stray_byte, most_bytes, IsBroken, Keeps}
 use Rattle.wg_lex.specs.declared.fault.LexFault.{LexFault}
 use Rattle.wg_lex.specs.declared.fault.LexFault.TheVariants as is
 use Rattle.wg_lex.specs.Faults.{IsFault}

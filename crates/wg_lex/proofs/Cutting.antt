@@ -127,7 +127,7 @@ only text at found others e h (qs, k, size, same) =
 pub unbroken_end : (rule : LexicalRule) (before : List ℕ) → IsBroken rule before [] → ⊥
 unbroken_end not_ascii before h = let e = h.1 in cc
 unbroken_end preprocessor before h = let e = h.0 in cc
-unbroken_end wide_literal before h = let s = size_positive [] _ h.3 in let i = h.3.inside in omega arith
+unbroken_end wide_literal before h = let s = size_positive [] _ h.4 in let i = h.4.inside in omega arith
 unbroken_end open_comment before h = let e = h.0 in cc
 unbroken_end stray_byte before h = let e = h.0 in omega arith
 

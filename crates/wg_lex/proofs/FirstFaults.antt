@@ -4,7 +4,8 @@ use Rattle.std.specs.List.{list_all}
 use Rattle.std.proofs.lemmas.Bool.Decides.{nat_tests}
 use Rattle.wg_tokens.specs.declared.token.TokenKind.TheVariants.{Number}
 use Rattle.wg_tokens.specs.declared.mark.Mark.{Mark}
-use Rattle.wg_tokens.specs.Characters.{is_blank, is_letter, is_digit}
+use Rattle.wg_words.specs.Characters.{is_letter, is_digit}
+use Rattle.wg_tokens.specs.Characters.{is_blank}
 use Rattle.wg_tokens.specs.Spelling.{Matter, comment, token, matter_of}
 use Rattle.wg_tokens.specs.Spelled.{lookup, marks, mark_named}
 use Rattle.wg_tokens.specs.Cut.{Piece, IsLongest}
@@ -76,32 +77,32 @@ piece_breaks_none before text p l wide opened wide_literal b = wide b
 piece_breaks_none before text p l wide opened open_comment b = opened b
 piece_breaks_none before text p l wide opened stray_byte b = piece_is_no_stray text p l b
 
-pub skipped_breaks_none : (before text : List ℕ) (p : Piece) → IsLongest text p → ((v : ℕ) (u : Bool) → p.matter ≡ token (Number v u) → ⊥) → (IsOpenComment text → ⊥) → (rule : LexicalRule) → IsBroken rule before text → ⊥
+pub skipped_breaks_none : (before text : List ℕ) (p : Piece) → IsLongest text p → ((v : ℕ) (u l : Bool) → p.matter ≡ token (Number v u l) → ⊥) → (IsOpenComment text → ⊥) → (rule : LexicalRule) → IsBroken rule before text → ⊥
 skipped_breaks_none before text p l other opened = piece_breaks_none before text p l (not_wide text p l other) opened
 
 -- ---- the first broken rule at a place
 
 pub wide_is_first : (before text : List ℕ) → IsWideLiteral text → (other : LexicalRule) → IsBroken other before text → rule_number wide_literal ≤ rule_number other
-wide_is_first before text h not_ascii b = absurd (piece_is_ascii text _ h.3 b)
-wide_is_first before text h preprocessor b = absurd (piece_is_no_hash before text _ h.3 b)
+wide_is_first before text h not_ascii b = absurd (piece_is_ascii text _ h.4 b)
+wide_is_first before text h preprocessor b = absurd (piece_is_no_hash before text _ h.4 b)
 wide_is_first before text h wide_literal b = omega arith
 wide_is_first before text h open_comment b = omega arith
 wide_is_first before text h stray_byte b = omega arith
 
-open_is_no_number : (text : List ℕ) (n v : ℕ) (u : Bool) → take 2 text ≡ codes "/*" → matter_of (take n text) ≡ Some (token (Number v u)) → ⊥
-open_is_no_number text n v u h e = at text n (first_open text h).0 (first_open text h).1 e
+open_is_no_number : (text : List ℕ) (n v : ℕ) (u l : Bool) → take 2 text ≡ codes "/*" → matter_of (take n text) ≡ Some (token (Number v u l)) → ⊥
+open_is_no_number text n v u l h e = at text n (first_open text h).0 (first_open text h).1 e
   where
-    commented : (w : Bool) → (if w then Some comment else None) ≡ Some (token (Number v u)) → ⊥
+    commented : (w : Bool) → (if w then Some comment else None) ≡ Some (token (Number v u l)) → ⊥
     commented true e = cc
     commented false e = cc
 
-    slashed : (bs : List ℕ) → get_or bs 0 0 ≡ 42 → (n : ℕ) → matter_of (take n (47 ∷ bs)) ≡ Some (token (Number v u)) → ⊥
+    slashed : (bs : List ℕ) → get_or bs 0 0 ≡ 42 → (n : ℕ) → matter_of (take n (47 ∷ bs)) ≡ Some (token (Number v u l)) → ⊥
     slashed bs f zero e = cc
     slashed bs f (suc zero) e = cc
     slashed [] f (suc (suc n)) e = cc
     slashed (c ∷ cs) f (suc (suc n)) e = commented _ (ap (λ z. matter_of (47 ∷ z ∷ take n cs)) (sym f) ∙ e)
 
-    at : (text : List ℕ) (n : ℕ) → get_or text 0 0 ≡ 47 → get_or text 1 0 ≡ 42 → matter_of (take n text) ≡ Some (token (Number v u)) → ⊥
+    at : (text : List ℕ) (n : ℕ) → get_or text 0 0 ≡ 47 → get_or text 1 0 ≡ 42 → matter_of (take n text) ≡ Some (token (Number v u l)) → ⊥
     at [] zero f g e = cc
     at [] (suc n) f g e = cc
     at (b ∷ bs) n f g e = slashed bs g n (ap (λ z. matter_of (take n (z ∷ bs))) (sym f) ∙ e)
@@ -113,7 +114,7 @@ first_is (c ∷ cs) b e = cc
 pub open_is_first : (before text : List ℕ) → IsOpenComment text → (other : LexicalRule) → IsBroken other before text → rule_number open_comment ≤ rule_number other
 open_is_first before text h not_ascii b = let f = (first_open text h.0).0 in let g = first_is text b.0 b.1 in let a = b.2 in absurd (omega arith)
 open_is_first before text h preprocessor b = let f = (first_open text h.0).0 in let g = first_is text 35 b.0 in absurd (omega arith)
-open_is_first before text h wide_literal b = absurd (open_is_no_number text b.2 b.0 b.1 h.0 b.3.is)
+open_is_first before text h wide_literal b = absurd (open_is_no_number text b.3 b.0 b.1 b.2 h.0 b.4.is)
 open_is_first before text h open_comment b = omega arith
 open_is_first before text h stray_byte b = omega arith
 
@@ -127,7 +128,7 @@ slash_is_no_stray (b ∷ bs) h s = let f = (first_open (b ∷ bs) h).0 in marked
 pub stray_is_first : (before text : List ℕ) → IsStray text → (IsNotAscii text → ⊥) → (IsPreprocessor before text → ⊥) → (other : LexicalRule) → IsBroken other before text → rule_number stray_byte ≤ rule_number other
 stray_is_first before text h ascii plain not_ascii b = absurd (ascii b)
 stray_is_first before text h ascii plain preprocessor b = absurd (plain b)
-stray_is_first before text h ascii plain wide_literal b = absurd (piece_is_no_stray text _ b.3 h)
+stray_is_first before text h ascii plain wide_literal b = absurd (piece_is_no_stray text _ b.4 h)
 stray_is_first before text h ascii plain open_comment b = absurd (slash_is_no_stray text b.0 h)
 stray_is_first before text h ascii plain stray_byte b = omega arith
 

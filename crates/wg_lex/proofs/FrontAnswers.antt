@@ -1,18 +1,20 @@
 -- What each step of the lexer finds at the front of a text.
-use Rattle.std.proofs.Common.{◌≡◌, ◌≢◌, ℕ, zero, suc, ◌+◌, ◌^◌, ◌<◌, ◌≤◌, ◌==◌, Bool, true, false, ◌&&◌, List, [], ◌∷◌, length, take, drop, get_or, Option, Some, None, refl, sym, ◌∙◌, ap, subst, arith, codes, inl, inr, not}
+use Rattle.std.proofs.Common.{◌≡◌, ◌≢◌, ℕ, zero, suc, ◌+◌, ◌^◌, ◌<◌, ◌≤◌, ◌==◌, Bool, true, false, ◌&&◌, List, [], ◌∷◌, length, take, drop, get_or, Option, Some, None, refl, sym, ◌∙◌, ap, subst, arith, inl, inr, not}
 use Rattle.std.specs.List.{prefix_len}
 use Rattle.std.proofs.lemmas.Bool.Decides.{nat_tests}
-use Rattle.wg_tokens.specs.Characters.{is_one_of, is_blank, is_letter, is_digit, is_word, is_text_byte, is_line_feed}
+use Rattle.wg_words.specs.Characters.{is_letter, is_digit, is_word, is_line_feed}
+use Rattle.wg_tokens.specs.Characters.{is_blank, is_text_byte}
 use Rattle.wg_tokens.specs.declared.mark.Mark as Signs
 use Rattle.wg_tokens.specs.declared.token.TokenKind.TheVariants.{Plain, Number, Text, Mark}
 use Rattle.wg_tokens.specs.Spelling.{comment, token, matter_of}
 use Rattle.wg_tokens.specs.Cut.{IsLongest}
+use Rattle.wg_lex.specs.declared.numbers.Suffix.{Suffix}
 use Rattle.wg_lex.specs.declared.numbers.Numeral.{Numeral}
 use Rattle.wg_lex.specs.declared.front.Front.TheVariants.{Skipped, Token, WideLiteral, OpenComment, Stray}
 use Rattle.wg_lex.specs.Numerals.{IsNumeral}
 use Rattle.wg_lex.specs.Scanning.{BeginsNoOther, IsLongestMark, IsNoMark, comment_end}
 use Rattle.wg_lex.specs.Fronts.{IsFront}
-use Rattle.wg_lex.proofs.FrontRules.{not_wide, not_wide_number, wide_by_letter, not_open, opens_comment}
+use Rattle.wg_lex.proofs.FrontRules.{not_wide, not_wide_number, not_open, opens_comment}
 use Rattle.wg_lex.proofs.Longest.{blank_is, name_is, text_is, open_text_is, line_comment_is, block_comment_is, open_comment_is, mark_is, no_piece}
 
 letter_is_no_slash : (b : ℕ) (v : Bool) → is_letter b ≡ true → (b == 47 && v) ≡ false
@@ -24,25 +26,27 @@ digit_is_no_slash b v h = let e : (b == 47) ≡ false = grind (arith, nat_tests)
 pub front_of_name : (text : List ℕ) (n : ℕ) → n ≡ prefix_len is_word text → is_blank (get_or text 0 0) ≡ false → is_letter (get_or text 0 0) ≡ true
     → IsFront text (Token (Plain (take n text)) n)
 front_of_name text n run plain letter = let is = name_is text n run plain letter in
-    (is, not_wide text (record { matter = token (Plain (take n text)); size = n }) is (λ v u e. other e), not_open text (letter_is_no_slash (get_or text 0 0) (get_or text 1 0 == 42) letter))
+    (is, not_wide text (record { matter = token (Plain (take n text)); size = n }) is (λ v u l e. other e), not_open text (letter_is_no_slash (get_or text 0 0) (get_or text 1 0 == 42) letter))
   where
-    other : {name : List ℕ} {v : ℕ} {u : Bool} → token (Plain name) ≡ token (Number v u) → ⊥
+    other : {name : List ℕ} {v : ℕ} {u l : Bool} → token (Plain name) ≡ token (Number v u l) → ⊥
     other e = cc
 
-pub front_of_number : (text : List ℕ) (value size : ℕ) (unsigned : Bool) → is_digit (get_or text 0 0) ≡ true → value < 2 ^ 32 → is_one_of (codes "lL") (get_or text size 0) ≡ false
-    → IsLongest text (record { matter = token (Number value unsigned); size = size }) → IsFront text (Token (Number value unsigned) size)
-front_of_number text value size unsigned digit fits short is = (is, not_wide_number text value size unsigned is fits short, not_open text (digit_is_no_slash (get_or text 0 0) (get_or text 1 0 == 42) digit))
+pub front_of_number : (text : List ℕ) (numeral : Numeral) (value : ℕ) → is_digit (get_or text 0 0) ≡ true → value < 2 ^ 64 → numeral.value ≡ Some value → IsNumeral text numeral
+    → IsFront text (Token (Number value numeral.suffix.unsigned numeral.suffix.long) numeral.size)
+front_of_number text numeral value digit fits some h = let is = value_of_numeral text numeral.value value numeral.size numeral.suffix some h in
+    (is, not_wide_number text value numeral.size numeral.suffix.unsigned numeral.suffix.long is fits, not_open text (digit_is_no_slash (get_or text 0 0) (get_or text 1 0 == 42) digit))
+  where
+    value_of_numeral : (text : List ℕ) (value : Option ℕ) (v size : ℕ) (s : Suffix) → value ≡ Some v → IsNumeral text (record { value = value; suffix = s; size = size }) → IsLongest text (record { matter = token (Number v s.unsigned s.long); size = size })
+    value_of_numeral text (Some w) v size s e h = let same : w ≡ v = cc in subst (λ z. IsLongest text (record { matter = token (Number z s.unsigned s.long); size = size })) same h.value
+    value_of_numeral text None v size s e h = absurd (cc)
 
-numeral_some : (text : List ℕ) (value : Option ℕ) (size : ℕ) (u : Bool) → IsNumeral text (record { value = value; unsigned = u; size = size }) → (v : ℕ) × IsLongest text (record { matter = token (Number v u); size = size })
-numeral_some text (Some v) size u h = (v, h.value)
-numeral_some text None size u h = (h.wide.0, h.wide.2)
-
-pub front_of_long : (text : List ℕ) (numeral : Numeral) → IsNumeral text numeral → is_one_of (codes "lL") (get_or text numeral.size 0) ≡ true → IsFront text WideLiteral
-front_of_long text numeral h long = let s = numeral_some text numeral.value numeral.size numeral.unsigned h in wide_by_letter text s.0 numeral.size numeral.unsigned s.1 long
-
-pub value_of_numeral : (text : List ℕ) (value : Option ℕ) (v size : ℕ) (u : Bool) → value ≡ Some v → IsNumeral text (record { value = value; unsigned = u; size = size }) → IsLongest text (record { matter = token (Number v u); size = size })
-value_of_numeral text (Some w) v size u e h = let same : w ≡ v = cc in subst (λ z. IsLongest text (record { matter = token (Number z u); size = size })) same h.value
-value_of_numeral text None v size u e h = absurd (cc)
+-- a number that has no value is wide
+pub front_of_wide : (text : List ℕ) (numeral : Numeral) → numeral.value ≡ None → IsNumeral text numeral → IsFront text WideLiteral
+front_of_wide text numeral none h = wide text numeral.value numeral.size numeral.suffix none h
+  where
+    wide : (text : List ℕ) (value : Option ℕ) (size : ℕ) (s : Suffix) → value ≡ None → IsNumeral text (record { value = value; suffix = s; size = size }) → IsFront text WideLiteral
+    wide text (Some w) size s e h = absurd (cc)
+    wide text None size s e h = (h.wide.0, s.unsigned, s.long, size, h.wide.2, h.wide.1)
 
 quote_is_no_slash : (b : ℕ) (v : Bool) → b ≡ 34 → (b == 47 && v) ≡ false
 quote_is_no_slash b v h = rw h refl
@@ -50,9 +54,9 @@ quote_is_no_slash b v h = rw h refl
 pub front_of_text : (text rest : List ℕ) (n : ℕ) → get_or text 0 0 ≡ 34 → rest ≡ drop 1 text → n ≡ prefix_len is_text_byte rest → get_or rest n 0 ≡ 34
     → IsFront text (Token (Text (take n rest)) (n + 2))
 front_of_text text rest n first after run quote = let is = text_is text rest n first after run quote in
-    (is, not_wide text (record { matter = token (Text (take n rest)); size = n + 2 }) is (λ v u e. other e), not_open text (quote_is_no_slash (get_or text 0 0) (get_or text 1 0 == 42) first))
+    (is, not_wide text (record { matter = token (Text (take n rest)); size = n + 2 }) is (λ v u l e. other e), not_open text (quote_is_no_slash (get_or text 0 0) (get_or text 1 0 == 42) first))
   where
-    other : {bytes : List ℕ} {v : ℕ} {u : Bool} → token (Text bytes) ≡ token (Number v u) → ⊥
+    other : {bytes : List ℕ} {v : ℕ} {u l : Bool} → token (Text bytes) ≡ token (Number v u l) → ⊥
     other e = cc
 
 pub front_of_open_text : (text rest : List ℕ) (n : ℕ) → 0 < length text → get_or text 0 0 ≡ 34 → rest ≡ drop 1 text → n ≡ prefix_len is_text_byte rest → get_or rest n 0 ≢ 34
@@ -88,9 +92,9 @@ front_of_open_comment text rest h after at = (opens_comment text h, none text re
 
 pub front_of_mark : (text : List ℕ) (code : Signs.Mark) (n : ℕ) → BeginsNoOther text → IsLongestMark text code n → IsFront text (Token (Mark code) n)
 front_of_mark text code n h mark = let is = mark_is text code n h mark in
-    (is, not_wide text (record { matter = token (Mark code); size = n }) is (λ v u e. other e), not_open text h.block)
+    (is, not_wide text (record { matter = token (Mark code); size = n }) is (λ v u l e. other e), not_open text h.block)
   where
-    other : {code : Signs.Mark} {v : ℕ} {u : Bool} → token (Mark code) ≡ token (Number v u) → ⊥
+    other : {code : Signs.Mark} {v : ℕ} {u l : Bool} → token (Mark code) ≡ token (Number v u l) → ⊥
     other e = cc
 
 pub front_of_stray : (text : List ℕ) → 0 < length text → BeginsNoOther text → IsNoMark text → IsFront text Stray

@@ -1,7 +1,6 @@
 -- Which rules the front of a text breaks.
-use Rattle.std.proofs.Common.{◌≡◌, ◌≢◌, ℕ, zero, suc, ◌^◌, ◌<◌, ◌≤◌, ◌==◌, Bool, true, false, ◌&&◌, List, [], ◌∷◌, take, get_or, slice_get, Some, IsTrue, refl, sym, ◌∙◌, ap, arith, codes, ◌⊎◌, inl, inr}
+use Rattle.std.proofs.Common.{◌≡◌, ℕ, ◌^◌, ◌<◌, ◌==◌, Bool, true, false, ◌&&◌, List, [], ◌∷◌, take, get_or, Some, refl, sym, ◌∙◌, ap, arith, codes, ◌⊎◌, inl, inr}
 use Rattle.std.proofs.lemmas.Bool.Decides.{nat_tests}
-use Rattle.wg_tokens.specs.Characters.{is_one_of}
 use Rattle.wg_tokens.specs.declared.token.TokenKind.TheVariants.{Number}
 use Rattle.wg_tokens.specs.Spelling.{Matter, token, matter_of}
 use Rattle.wg_tokens.specs.Cut.{Piece, IsLongest}
@@ -26,51 +25,18 @@ one_longest text p q a b = elim (order p.size q.size) [
 
 -- ---- no wide literal
 
-pub not_wide : (text : List ℕ) (p : Piece) → IsLongest text p → ((value : ℕ) (unsigned : Bool) → p.matter ≡ token (Number value unsigned) → ⊥) → IsWideLiteral text → ⊥
-not_wide text p h other (value, unsigned, size, number, wide) =
-    other value unsigned (ap (λ z. z.matter) (one_longest text p (record { matter = token (Number value unsigned); size = size }) h number))
+pub not_wide : (text : List ℕ) (p : Piece) → IsLongest text p → ((value : ℕ) (unsigned long : Bool) → p.matter ≡ token (Number value unsigned long) → ⊥) → IsWideLiteral text → ⊥
+not_wide text p h other (value, unsigned, long, size, number, wide) =
+    other value unsigned long (ap (λ z. z.matter) (one_longest text p (record { matter = token (Number value unsigned long); size = size }) h number))
 
-abbrev is_long : ℕ → Bool
-is_long b = is_one_of (codes "lL") b
-
-at_get : (text : List ℕ) (i b : ℕ) → slice_get text i ≡ Some b → get_or text i 0 ≡ b
-at_get [] i b e = absurd (cc)
-at_get (x ∷ xs) zero b e = cc
-at_get (x ∷ xs) (suc i) b e = at_get xs i b e
-
-pub not_wide_number : (text : List ℕ) (value size : ℕ) (unsigned : Bool) → IsLongest text (record { matter = token (Number value unsigned); size = size }) → value < 2 ^ 32 → is_long (get_or text size 0) ≡ false → IsWideLiteral text → ⊥
-not_wide_number text value size unsigned h fits short (value', unsigned', size', number, wide) =
-    let same = one_longest text (record { matter = token (Number value unsigned); size = size }) (record { matter = token (Number value' unsigned'); size = size' }) h number in
-    let sizes : size ≡ size' = ap (λ z. z.size) same in
+pub not_wide_number : (text : List ℕ) (value size : ℕ) (unsigned long : Bool) → IsLongest text (record { matter = token (Number value unsigned long); size = size }) → value < 2 ^ 64 → IsWideLiteral text → ⊥
+not_wide_number text value size unsigned long h fits (value', unsigned', long', size', number, wide) =
+    let same = one_longest text (record { matter = token (Number value unsigned long); size = size }) (record { matter = token (Number value' unsigned' long'); size = size' }) h number in
     let values : value ≡ value' = numbers (ap (λ z. z.matter) same) in
-    elim wide [
-      | inl above ↦ omega arith
-      | inr (b, at, long) ↦ let e : is_long (get_or text size 0) ≡ true = ap (λ z. is_long (get_or text z 0)) sizes ∙ ap is_long (at_get text size' b at) ∙ true_is (is_long b) long in absurd (cc)
-    ]
+    omega arith
   where
-    numbers : {v v' : ℕ} {u u' : Bool} → token (Number v u) ≡ token (Number v' u') → v ≡ v'
+    numbers : {v v' : ℕ} {u u' l l' : Bool} → token (Number v u l) ≡ token (Number v' u' l') → v ≡ v'
     numbers e = cc
-
-    true_is : (v : Bool) → IsTrue v → v ≡ true
-    true_is true t = refl
-    true_is false t = t
-
-get_at : (text : List ℕ) (i : ℕ) → get_or text i 0 ≢ 0 → slice_get text i ≡ Some (get_or text i 0)
-get_at [] i h = absurd (h refl)
-get_at (x ∷ xs) zero h = refl
-get_at (x ∷ xs) (suc i) h = get_at xs i h
-
-pub wide_by_letter : (text : List ℕ) (value size : ℕ) (unsigned : Bool) → IsLongest text (record { matter = token (Number value unsigned); size = size }) → is_long (get_or text size 0) ≡ true → IsWideLiteral text
-wide_by_letter text value size unsigned h long = (value, unsigned, size, h, inr (get_or text size 0, get_at text size (λ e. not_zero (ap is_long (sym e) ∙ long)), is_true (is_long (get_or text size 0)) long))
-  where
-    not_zero : is_long 0 ≡ true → ⊥
-    not_zero e = cc
-
-    is_true : (v : Bool) → v ≡ true → IsTrue v
-    is_true v e = e
-
-pub wide_by_value : (text : List ℕ) (value size : ℕ) (unsigned : Bool) → IsLongest text (record { matter = token (Number value unsigned); size = size }) → 2 ^ 32 ≤ value → IsWideLiteral text
-wide_by_value text value size unsigned h above = (value, unsigned, size, h, inl above)
 
 -- ---- no open comment
 

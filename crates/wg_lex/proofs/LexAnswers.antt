@@ -23,8 +23,8 @@ use Rattle.wg_lex.proofs.Places.{after_is, line_within, column_within}
 
 pub skipped : (text rest : List ℕ) (at size : ℕ) (found : List Token) → rest ≡ drop at text → IsFront rest (front.Skipped size) → SoFar text at found → SoFar text (at + size) found
 skipped text rest at size found after h so = elim f.0 [
-  | inl l ↦ subst (λ z. SoFar text (at + size) z) (append-nil found) (step text at (record { matter = blank; size = size }) found l (skipped_breaks_none (take at text) (drop at text) (record { matter = blank; size = size }) l (λ v u e. cc) f.1) so)
-  | inr l ↦ subst (λ z. SoFar text (at + size) z) (append-nil found) (step text at (record { matter = comment; size = size }) found l (skipped_breaks_none (take at text) (drop at text) (record { matter = comment; size = size }) l (λ v u e. cc) f.1) so)
+  | inl l ↦ subst (λ z. SoFar text (at + size) z) (append-nil found) (step text at (record { matter = blank; size = size }) found l (skipped_breaks_none (take at text) (drop at text) (record { matter = blank; size = size }) l (λ v u l e. cc) f.1) so)
+  | inr l ↦ subst (λ z. SoFar text (at + size) z) (append-nil found) (step text at (record { matter = comment; size = size }) found l (skipped_breaks_none (take at text) (drop at text) (record { matter = comment; size = size }) l (λ v u l e. cc) f.1) so)
 ]
   where
     f : IsFront (drop at text) (front.Skipped size)

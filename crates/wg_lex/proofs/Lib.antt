@@ -10,3 +10,4 @@ pub mod MarkSizes
 pub mod NumberSizes
 pub mod Places
 pub mod Runs
+pub mod Suffixes

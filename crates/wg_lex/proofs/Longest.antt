@@ -4,7 +4,8 @@ use Rattle.std.specs.List.{list_all, prefix_len}
 use Rattle.std.proofs.lemmas.Bool.Decides.{nat_tests}
 use Rattle.std.proofs.lemmas.List.{length-drop}
 use Rattle.std.proofs.Math.Seq.{drop-cons}
-use Rattle.wg_tokens.specs.Characters.{is_blank, is_letter, is_word, is_line_feed, is_text_byte}
+use Rattle.wg_words.specs.Characters.{is_letter, is_word, is_line_feed}
+use Rattle.wg_tokens.specs.Characters.{is_blank, is_text_byte}
 use Rattle.wg_tokens.specs.declared.mark.Mark as Signs
 use Rattle.wg_tokens.specs.declared.token.TokenKind.TheVariants.{Plain, Text, Mark}
 use Rattle.wg_tokens.specs.Spelling.{blank, comment, token, is_quote, closes, matter_of, mark_of, text_of, slash_of}

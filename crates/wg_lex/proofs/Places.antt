@@ -4,7 +4,8 @@ use Rattle.std.specs.List.{list_all, after_last, suffix_len, prefix_len}
 use Rattle.std.proofs.lemmas.List.{append-nil, reverse-append, drop-append-le}
 use Rattle.std.proofs.lemmas.List.Sums.{suffix_len-le-length, count_by-le-length, sum_by-append}
 use Rattle.std.proofs.lemmas.List.Folds.{list_all-append}
-use Rattle.wg_tokens.specs.Characters.{is_blank, is_line_feed}
+use Rattle.wg_words.specs.Characters.{is_line_feed}
+use Rattle.wg_tokens.specs.Characters.{is_blank}
 use Rattle.wg_tokens.specs.Cut.{place_after}
 use Rattle.wg_lex.specs.declared.position.Position.{Position}
 use Rattle.wg_lex.specs.Positions.{position_after, next_position}

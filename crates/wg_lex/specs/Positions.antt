@@ -1,7 +1,8 @@
 -- Places, byte by byte.
 use Rattle.std.specs.Prelude.{ℕ, ◌+◌, true, ◌&&◌, if◌then◌else◌, List}
 use Rattle.std.specs.List.{list_all, after_last}
-use Rattle.wg_tokens.specs.Characters.{is_blank, is_line_feed}
+use Rattle.wg_words.specs.Characters.{is_line_feed}
+use Rattle.wg_tokens.specs.Characters.{is_blank}
 use Rattle.wg_tokens.specs.Cut.{place_after}
 use Rattle.wg_lex.specs.declared.position.Position.{Position}
 

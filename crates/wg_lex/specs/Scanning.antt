@@ -1,8 +1,9 @@
 -- Parts of a text, as the steps of the lexer say them.
-use Rattle.std.specs.Prelude.{◌≡◌, ℕ, ◌+◌, ◌<◌, ◌≤◌, Bool, true, false, ◌&&◌, ◌==◌, if◌then◌else◌, List, [], ◌∷◌, length, take, slice_index, Option, Some, None}
+use Rattle.std.specs.Prelude.{◌≡◌, ℕ, ◌+◌, ◌<◌, ◌≤◌, Bool, false, ◌&&◌, ◌==◌, if◌then◌else◌, List, [], ◌∷◌, length, take, slice_index, Option, Some, None}
 use Rattle.std.specs.Option.{option_map}
 use Rattle.wg_tokens.specs.declared.mark.Mark.{Mark}
-use Rattle.wg_tokens.specs.Characters.{is_blank, is_letter, is_digit}
+use Rattle.wg_words.specs.Characters.{is_letter, is_digit}
+use Rattle.wg_tokens.specs.Characters.{is_blank}
 use Rattle.wg_tokens.specs.Spelled.{mark_named}
 
 -- the first n bytes are this mark, and no more of them are one

@@ -9,7 +9,7 @@ pub enum LexFault {
     NotAscii { place: Place },
     /// A `#` that begins its line, but for blanks.
     Preprocessor { place: Place },
-    /// A number above `0xffffffff`, or with `l` or `L` after it.
+    /// A number of more than 64 bits.
     WideLiteral { place: Place },
     /// A `/*` without `*/`.
     OpenComment { place: Place },

@@ -1,5 +1,6 @@
 //! What stands at the front of a text.
-ghost use Rattle.std.specs.Prelude.{◌≡◌, ◌<◌, ◌==◌, ◌&&◌, true, false, length, IfOk, slice_index, codes};
+ghost use Rattle.std.specs.Prelude.{◌≡◌, ◌<◌, ◌==◌, ◌&&◌, true, false, length, IfOk, slice_index};
+ghost use Rattle.wg_words.specs.Characters as letters;
 ghost use Rattle.wg_tokens.specs.Characters as class;
 ghost use Rattle.wg_lex.specs.Fronts.{IsFront};
 ghost use Rattle.wg_lex.specs.Scanning.{BeginsNoOther};
@@ -25,12 +26,6 @@ pub enum Front {
     Stray,
 }
 
-fn is_long(suffix: u8) -> bool
-    ensures { result ≡ class.is_one_of (codes "lL") suffix }
-{
-    suffix == b'l' || suffix == b'L'
-}
-
 fn begins_with(text: &[u8], first: u8, second: u8) -> bool
     ensures { result ≡ (slice_index text.now 0 == first && slice_index text.now 1 == second) }
 {
@@ -39,7 +34,7 @@ fn begins_with(text: &[u8], first: u8, second: u8) -> bool
 
 fn name(alloc: Global, text: &[u8]) -> Result<Front, AllocError>
     requires blank { class.is_blank (slice_index text.now 0) ≡ false }
-    requires letter { class.is_letter (slice_index text.now 0) ≡ true }
+    requires letter { letters.is_letter (slice_index text.now 0) ≡ true }
     ensures { IfOk result (λ front. IsFront text.now front) }
 {
     let size = word_len(text);
@@ -51,18 +46,16 @@ fn name(alloc: Global, text: &[u8]) -> Result<Front, AllocError>
 }
 
 fn number(text: &[u8]) -> Front
-    requires { class.is_digit (slice_index text.now 0) ≡ true }
+    requires { letters.is_digit (slice_index text.now 0) ≡ true }
     ensures { IsFront text.now result }
 {
     let numeral = scan_number(text);
-    if is_long(byte(text, numeral.size)) {
-        return Front::WideLiteral;
-    }
     match numeral.value {
         Some(value) => Front::Token {
             kind: TokenKind::Number {
                 value,
-                unsigned: numeral.unsigned,
+                unsigned: numeral.suffix.unsigned,
+                long: numeral.suffix.long,
             },
             size: numeral.size,
         },

@@ -5,7 +5,7 @@ use Rattle.std.proofs.lemmas.List.{length-take}
 use Rattle.std.proofs.lemmas.List.Sums.{suffix_len-le-length}
 use Rattle.wg_words.specs.Each.{Each}
 use Rattle.wg_tokens.specs.declared.token.Token.{Token}
-use Rattle.wg_tokens.specs.Characters.{is_line_feed}
+use Rattle.wg_words.specs.Characters.{is_line_feed}
 use Rattle.wg_tokens.specs.Spelling.{Matter, blank, comment, token}
 use Rattle.wg_tokens.specs.Cut.{Piece, size_of, tokens_of}
 use Rattle.wg_tokens.specs.LexicalRules.{most_bytes}

@@ -31,7 +31,7 @@ const BUFFERS: [Class; 5] = [
 ];
 
 /// The classes with which a declaration of a text begins.
-const ITEM_STARTS: [Class; 23] = [
+const ITEM_STARTS: [Class; 27] = [
     STRUCT,
     GLOBALLY_COHERENT,
     RW_BYTE_ADDRESS_BUFFER,
@@ -55,6 +55,10 @@ const ITEM_STARTS: [Class; 23] = [
     UINT2,
     UINT3,
     UINT4,
+    INT16,
+    UINT16,
+    INT64,
+    UINT64,
 ];
 
 #[derive(Drop)]

@@ -1,8 +1,6 @@
 //! Reads tokens as trees.
 #![tactic(auto)]
 
-#[cfg(test)]
-mod graphs;
 mod item;
 mod parameter;
 mod parsing;

@@ -22,7 +22,7 @@ const DIRECTION_WORDS: [(Class, Direction); 3] = [
 ];
 
 /// The classes with which a parameter begins.
-const PARAMETER_STARTS: [Class; 28] = [
+const PARAMETER_STARTS: [Class; 32] = [
     LEFT_BRACKET,
     IN,
     OUT,
@@ -40,6 +40,10 @@ const PARAMETER_STARTS: [Class; 28] = [
     UINT2,
     UINT3,
     UINT4,
+    INT16,
+    UINT16,
+    INT64,
+    UINT64,
     DISPATCH_NODE_INPUT_RECORD,
     RW_DISPATCH_NODE_INPUT_RECORD,
     GROUP_NODE_INPUT_RECORDS,

@@ -38,9 +38,14 @@ fn copy_kind(alloc: Global, kind: &TokenKind) -> Result<TokenKind, AllocError>
         TokenKind::Plain { name } => TokenKind::Plain {
             name: name.copy(alloc)?,
         },
-        TokenKind::Number { value, unsigned } => TokenKind::Number {
+        TokenKind::Number {
+            value,
+            unsigned,
+            long,
+        } => TokenKind::Number {
             value: *value,
             unsigned: *unsigned,
+            long: *long,
         },
         TokenKind::Text { bytes } => TokenKind::Text {
             bytes: bytes.copy(alloc)?,

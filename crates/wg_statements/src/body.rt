@@ -23,7 +23,7 @@ use wg_words::Place;
 const HEAD_STARTS: [Class; 4] = [LEFT_BRACKET, IF, WHILE, FOR];
 
 /// The classes with which a statement begins.
-const STMT_STARTS: [Class; 47] = [
+const STMT_STARTS: [Class; 51] = [
     LEFT_BRACE,
     LEFT_BRACKET,
     IF,
@@ -52,6 +52,10 @@ const STMT_STARTS: [Class; 47] = [
     UINT2,
     UINT3,
     UINT4,
+    INT16,
+    UINT16,
+    INT64,
+    UINT64,
     LEFT_PAREN,
     INCREMENT,
     DECREMENT,

@@ -19,9 +19,10 @@ use wg_tokens::{Class, Keyword};
 use wg_tree::{Expr, Header, Start, Steps, Stmt};
 
 /// The classes with which the start of a `for` begins.
-const START_STARTS: [Class; 25] = [
+const START_STARTS: [Class; 29] = [
     CONST, MINUS, PLUS, NOT, TILDE, NUMBER, ZERO, TRUE, FALSE, NAME, BOOL, BOOL2, BOOL3, BOOL4,
-    INT, INT2, INT3, INT4, UINT, UINT2, UINT3, UINT4, LEFT_PAREN, INCREMENT, DECREMENT,
+    INT, INT2, INT3, INT4, UINT, UINT2, UINT3, UINT4, INT16, UINT16, INT64, UINT64, LEFT_PAREN,
+    INCREMENT, DECREMENT,
 ];
 
 fn declared(alloc: Global, cursor: &mut Cursor<'_>, room: u32) -> Result<Stmt, Halt>

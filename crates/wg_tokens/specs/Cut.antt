@@ -3,7 +3,7 @@ use Rattle.std.specs.Prelude.{◌≡◌, ℕ, ◌+◌, ◌<◌, ◌≤◌, List,
 use Rattle.std.specs.List.{suffix_len}
 use Rattle.wg_words.specs.declared.place.Place.{Place}
 use Rattle.wg_tokens.specs.declared.token.Token.{Token}
-use Rattle.wg_tokens.specs.Characters.{is_line_feed}
+use Rattle.wg_words.specs.Characters.{is_line_feed}
 use Rattle.wg_tokens.specs.Spelling.{Matter, blank, comment, token, matter_of}
 
 -- the place of the byte that comes after these: its line and its column, from 1

@@ -2,7 +2,8 @@
 use Rattle.std.specs.Prelude.{◌≡◌, ℕ, ◌^◌, ◌<◌, ◌≤◌, ◌⊎◌, Bool, IsTrue, List, length, take, drop, codes, None, slice_get, Some}
 use Rattle.std.specs.List.{list_all, after_last}
 use Rattle.wg_tokens.specs.declared.token.TokenKind.TheVariants.{Number}
-use Rattle.wg_tokens.specs.Characters.{is_one_of, is_blank, is_line_feed}
+use Rattle.wg_words.specs.Characters.{is_line_feed}
+use Rattle.wg_tokens.specs.Characters.{is_blank}
 use Rattle.wg_tokens.specs.Spelling.{comment, token, matter_of}
 use Rattle.wg_tokens.specs.Cut.{IsLongest, IsCutAt}
 
@@ -35,10 +36,9 @@ IsNotAscii rest = (b : ℕ) × (slice_get rest 0 ≡ Some b) × (128 ≤ b)
 abbrev pub IsPreprocessor : List ℕ → List ℕ → Type 0
 IsPreprocessor before rest = (slice_get rest 0 ≡ Some 35) × IsTrue (list_all is_blank (after_last is_line_feed before))
 
--- a number above the greatest word, or one that `l` or `L` follows
+-- a number of more than 64 bits
 abbrev pub IsWideLiteral : List ℕ → Type 0
-IsWideLiteral rest = (value : ℕ) × (unsigned : Bool) × (size : ℕ) × IsLongest rest (record { matter = token (Number value unsigned); size = size })
-    × ((2 ^ 32 ≤ value) ⊎ ((b : ℕ) × (slice_get rest size ≡ Some b) × IsTrue (is_one_of (codes "lL") b)))
+IsWideLiteral rest = (value : ℕ) × (unsigned : Bool) × (long : Bool) × (size : ℕ) × IsLongest rest (record { matter = token (Number value unsigned long); size = size }) × (2 ^ 64 ≤ value)
 
 -- a `/*` that no `*/` closes
 abbrev pub IsOpenComment : List ℕ → Type 0

@@ -1,5 +1,5 @@
 -- The words and the marks of the language by their spellings. This project's profile of HLSL.
-use Rattle.std.specs.Prelude.{ℕ, ◌+◌, ◌-◌, ◌*◌, ◌%◌, if◌then◌else◌, List, [], ◌∷◌, map, length, slice_index, bytes_eq, Option, Some, None}
+use Rattle.std.specs.Prelude.{ℕ, ◌+◌, ◌-◌, ◌*◌, ◌/◌, ◌%◌, if◌then◌else◌, List, [], ◌∷◌, map, length, slice_index, bytes_eq, Option, Some, None}
 use Rattle.wg_tokens.specs.declared.keyword.Keyword.{Keyword}
 use Rattle.wg_tokens.specs.declared.keyword.TheConstants.{KEYWORDS}
 use Rattle.wg_tokens.specs.declared.mark.Mark.{Mark}
@@ -24,7 +24,7 @@ mark_named bytes = lookup marks bytes
 
 -- a number below 128 that tells the words of the language apart. Own.
 abbrev pub slot : List ℕ → ℕ
-slot name = (slice_index name 0 * 8 + slice_index name (length name - 1) * 11 + length name % 32 * 13) % 128
+slot name = (slice_index name 0 * 5 + slice_index name (length name / 2) * 3 + slice_index name (length name - 1) * 23 + length name % 32 * 12) % 128
 
 -- the word of an entry, if there is one and it is spelled so
 abbrev pub if_spelled : Option (List ℕ × Keyword) → List ℕ → Option Keyword

@@ -1,11 +1,12 @@
 -- What bytes spell, taken as a whole: a blank, a comment or a token.
 use Rattle.std.specs.Prelude.{ℕ, ◌+◌, ◌*◌, Bool, true, false, ◌&&◌, ◌||◌, ◌==◌, not, if◌then◌else◌, List, [], ◌∷◌, drop, take_while, fold, Option, Some, None, codes}
-use Rattle.std.specs.List.{list_all, prefix_len}
+use Rattle.std.specs.List.{list_all, list_any, prefix_len}
 use Rattle.std.specs.Option.{option_map}
 use Rattle.wg_tokens.specs.declared.token.TokenKind.{TokenKind}
 use Rattle.wg_tokens.specs.declared.token.TokenKind.TheVariants.{Plain, Number, Text, Mark}
 use Rattle.wg_tokens.specs.Spelled.{mark_named}
-use Rattle.wg_tokens.specs.Characters.{is_one_of, is_line_feed, is_blank, is_letter, is_digit, is_hex_digit, digit_value, is_word, is_text_byte}
+use Rattle.wg_words.specs.Characters.{is_line_feed, is_letter, is_digit, is_word}
+use Rattle.wg_tokens.specs.Characters.{is_one_of, is_blank, is_hex_digit, digit_value, is_text_byte}
 
 -- what a piece of a text is
 pub data Matter : Type 0 where
@@ -20,16 +21,30 @@ is_empty (b ∷ bs) = false
 abbrev pub only_if : Bool → Matter → Option Matter
 only_if test matter = if test then Some matter else None
 
--- ---- numbers: decimal digits, or `0x` or `0X` and hexadecimal digits; then at most one `u` or `U`
+-- ---- numbers: decimal digits, or `0x` or `0X` and hexadecimal digits; then a suffix
 
 -- what digits are worth in this base
 abbrev pub worth : ℕ → List ℕ → ℕ
 worth base digits = fold (λ value b. value * base + digit_value b) 0 digits
 
+-- the letter of `unsigned`
+abbrev pub is_unsigned_letter : ℕ → Bool
+is_unsigned_letter b = is_one_of (codes "uU") b
+
+-- the letter of `long`
+abbrev pub is_long_letter : ℕ → Bool
+is_long_letter b = is_one_of (codes "lL") b
+
+-- nothing, one of the two letters, or one of each in any order
+abbrev pub is_suffix : List ℕ → Bool
+is_suffix [] = true
+is_suffix (a ∷ []) = is_unsigned_letter a || is_long_letter a
+is_suffix (a ∷ b ∷ []) = (is_unsigned_letter a && is_long_letter b) || (is_long_letter a && is_unsigned_letter b)
+is_suffix (a ∷ b ∷ c ∷ rest) = false
+
 -- the number of this value, by the suffix that stands after its digits
 abbrev pub with_suffix : ℕ → List ℕ → Option Matter
-with_suffix value [] = Some (token (Number value false))
-with_suffix value (b ∷ bs) = only_if (is_one_of (codes "uU") b && is_empty bs) (token (Number value true))
+with_suffix value suffix = only_if (is_suffix suffix) (token (Number value (list_any is_unsigned_letter suffix) (list_any is_long_letter suffix)))
 
 -- digits and their suffix
 abbrev pub number_in : (ℕ → Bool) → ℕ → List ℕ → Option Matter

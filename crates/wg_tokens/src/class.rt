@@ -36,7 +36,7 @@ impl Class {
             Class::Text => 3,
             Class::End => 4,
             Class::Word { keyword } => 5 + keyword as u8,
-            Class::Mark { mark } => 53 + mark as u8,
+            Class::Mark { mark } => 57 + mark as u8,
         }
     }
 }

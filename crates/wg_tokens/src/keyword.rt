@@ -40,6 +40,10 @@ pub enum Keyword {
     Uint2,
     Uint3,
     Uint4,
+    Int16,
+    Uint16,
+    Int64,
+    Uint64,
     DispatchNodeInputRecord,
     RwDispatchNodeInputRecord,
     GroupNodeInputRecords,
@@ -56,7 +60,7 @@ pub enum Keyword {
 }
 
 /// The words of the language as they are written.
-pub const KEYWORDS: [(&[u8], Keyword); 48] = [
+pub const KEYWORDS: [(&[u8], Keyword); 52] = [
     (b"struct", Keyword::Struct),
     (b"globallycoherent", Keyword::GloballyCoherent),
     (b"register", Keyword::Register),
@@ -92,6 +96,10 @@ pub const KEYWORDS: [(&[u8], Keyword); 48] = [
     (b"uint2", Keyword::Uint2),
     (b"uint3", Keyword::Uint3),
     (b"uint4", Keyword::Uint4),
+    (b"int16_t", Keyword::Int16),
+    (b"uint16_t", Keyword::Uint16),
+    (b"int64_t", Keyword::Int64),
+    (b"uint64_t", Keyword::Uint64),
     (b"DispatchNodeInputRecord", Keyword::DispatchNodeInputRecord),
     (
         b"RWDispatchNodeInputRecord",
@@ -110,14 +118,14 @@ pub const KEYWORDS: [(&[u8], Keyword); 48] = [
     (b"GroupNodeOutputRecords", Keyword::GroupNodeOutputRecords),
 ];
 
-/// Where the word of each slot stands in `KEYWORDS`; 48, past its end, where a slot has none.
+/// Where the word of each slot stands in `KEYWORDS`; 52, past its end, where a slot has none.
 const SLOTS: [u8; 128] = [
-    48, 48, 25, 48, 1, 13, 48, 40, 48, 48, 48, 48, 48, 26, 48, 32, 48, 48, 48, 7, 48, 48, 48, 35,
-    16, 48, 33, 12, 11, 48, 48, 48, 48, 36, 28, 48, 48, 34, 48, 8, 48, 48, 48, 21, 38, 29, 48, 48,
-    10, 48, 48, 18, 48, 48, 48, 48, 30, 48, 37, 48, 46, 20, 48, 48, 48, 48, 48, 48, 17, 48, 48, 47,
-    22, 48, 48, 48, 48, 48, 6, 48, 19, 48, 48, 4, 48, 9, 48, 15, 31, 48, 41, 48, 48, 48, 2, 45, 5,
-    48, 0, 48, 48, 48, 43, 44, 23, 48, 14, 27, 48, 3, 42, 48, 48, 48, 48, 48, 48, 48, 48, 24, 48,
-    48, 48, 48, 48, 39, 48, 48,
+    52, 17, 13, 4, 52, 52, 5, 49, 25, 52, 52, 52, 52, 52, 52, 52, 52, 22, 3, 39, 52, 18, 52, 28,
+    52, 45, 12, 23, 51, 15, 52, 26, 52, 52, 52, 52, 52, 48, 52, 52, 36, 52, 52, 52, 52, 20, 29, 31,
+    52, 2, 52, 52, 52, 10, 52, 38, 52, 52, 52, 52, 52, 52, 52, 52, 52, 52, 52, 16, 52, 30, 52, 52,
+    8, 46, 52, 52, 6, 32, 52, 52, 52, 11, 0, 52, 52, 52, 52, 52, 1, 44, 52, 52, 7, 19, 42, 52, 35,
+    9, 52, 52, 33, 52, 21, 27, 52, 47, 52, 52, 50, 52, 40, 37, 52, 24, 14, 52, 52, 52, 52, 43, 52,
+    52, 52, 34, 52, 52, 41, 52,
 ];
 
 fn byte(name: &[u8], at: usize) -> u8
@@ -132,8 +140,9 @@ fn slot(name: &[u8]) -> usize
     ensures within { result < 128 }
 {
     let first = usize::from(byte(name, 0));
+    let middle = usize::from(byte(name, name.len() / 2));
     let last = usize::from(byte(name, name.len().saturating_sub(1)));
-    (first * 8 + last * 11 + name.len() % 32 * 13) % 128
+    (first * 5 + middle * 3 + last * 23 + name.len() % 32 * 12) % 128
 }
 
 /// The word that stands there in a table, if it is spelled so.

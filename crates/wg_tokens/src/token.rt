@@ -1,5 +1,5 @@
 use crate::mark::Mark;
-use wg_words::{Items, Name, Place, Word};
+use wg_words::{Items, Name, Place};
 
 pub type Tokens = Items<Token>;
 
@@ -7,13 +7,23 @@ pub type Tokens = Items<Token>;
 #[derive(Debug, Drop)]
 pub enum TokenKind {
     /// A name or a word of the language.
-    Plain { name: Name },
-    /// A number with its value; `unsigned` where it has the suffix `u` or `U`.
-    Number { value: Word, unsigned: bool },
+    Plain {
+        name: Name,
+    },
+    /// A number with its value; `unsigned` where it has the suffix `u` or `U`, `long` where it has `l` or `L`.
+    Number {
+        value: u64,
+        unsigned: bool,
+        long: bool,
+    },
     /// A string, without its quotation marks.
-    Text { bytes: Name },
+    Text {
+        bytes: Name,
+    },
     /// Punctuation.
-    Mark { mark: Mark },
+    Mark {
+        mark: Mark,
+    },
     /// What stands after the last token of a text.
     End,
 }

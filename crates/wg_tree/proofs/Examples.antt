@@ -18,7 +18,7 @@ word_or_mark [] c = mark_or_end marks c
 word_or_mark (entry ∷ rest) c = if of_word entry.1 == c then kind.Plain entry.0 else word_or_mark rest c
 
 abbrev pub example_kind : ℕ → TokenKind
-example_kind c = if c == NAME then kind.Plain (codes "a") else (if c == ZERO then kind.Number 0 false else (if c == NUMBER then kind.Number 1 false else (if c == TEXT then kind.Text [] else word_or_mark words c)))
+example_kind c = if c == NAME then kind.Plain (codes "a") else (if c == ZERO then kind.Number 0 false false else (if c == NUMBER then kind.Number 1 false false else (if c == TEXT then kind.Text [] else word_or_mark words c)))
 
 abbrev pub example : ℕ → Token
 example c = record { kind = example_kind c; place = record { line = 1; column = 1 }; from = 0; to = 0 }

@@ -73,5 +73,5 @@ module _ (class : Token → ℕ) (edges : Edges Nested) (I : Readers Token Neste
   type_wrong v u ts w z = each (λ c. class v ≡ c → Read (plain_operand full) (v ∷ u ∷ ts) ≡ Wrong (u ∷ ts)) (class v) (classes (by_code value_types)) w (all I.room refl) refl
     where
       all : (b : Bool) → I.room ≡ b → Each (classes (by_code value_types)) (λ c. class v ≡ c → Read (plain_operand full) (v ∷ u ∷ ts) ≡ Wrong (u ∷ ts))
-      all true r = (λ q. rw (r, q, z) refl, (λ q. rw (r, q, z) refl, (λ q. rw (r, q, z) refl, (λ q. rw (r, q, z) refl, (λ q. rw (r, q, z) refl, (λ q. rw (r, q, z) refl, (λ q. rw (r, q, z) refl, (λ q. rw (r, q, z) refl, (λ q. rw (r, q, z) refl, (λ q. rw (r, q, z) refl, (λ q. rw (r, q, z) refl, (λ q. rw (r, q, z) refl, tt))))))))))))
-      all false r = (λ q. rw (r, q, z) refl, (λ q. rw (r, q, z) refl, (λ q. rw (r, q, z) refl, (λ q. rw (r, q, z) refl, (λ q. rw (r, q, z) refl, (λ q. rw (r, q, z) refl, (λ q. rw (r, q, z) refl, (λ q. rw (r, q, z) refl, (λ q. rw (r, q, z) refl, (λ q. rw (r, q, z) refl, (λ q. rw (r, q, z) refl, (λ q. rw (r, q, z) refl, tt))))))))))))
+      all true r = (λ q. rw (r, q, z) refl, (λ q. rw (r, q, z) refl, (λ q. rw (r, q, z) refl, (λ q. rw (r, q, z) refl, (λ q. rw (r, q, z) refl, (λ q. rw (r, q, z) refl, (λ q. rw (r, q, z) refl, (λ q. rw (r, q, z) refl, (λ q. rw (r, q, z) refl, (λ q. rw (r, q, z) refl, (λ q. rw (r, q, z) refl, (λ q. rw (r, q, z) refl, (λ q. rw (r, q, z) refl, (λ q. rw (r, q, z) refl, (λ q. rw (r, q, z) refl, (λ q. rw (r, q, z) refl, tt))))))))))))))))
+      all false r = (λ q. rw (r, q, z) refl, (λ q. rw (r, q, z) refl, (λ q. rw (r, q, z) refl, (λ q. rw (r, q, z) refl, (λ q. rw (r, q, z) refl, (λ q. rw (r, q, z) refl, (λ q. rw (r, q, z) refl, (λ q. rw (r, q, z) refl, (λ q. rw (r, q, z) refl, (λ q. rw (r, q, z) refl, (λ q. rw (r, q, z) refl, (λ q. rw (r, q, z) refl, (λ q. rw (r, q, z) refl, (λ q. rw (r, q, z) refl, (λ q. rw (r, q, z) refl, (λ q. rw (r, q, z) refl, tt))))))))))))))))

@@ -36,8 +36,8 @@ abbrev pub placed_name : Token → Named
 placed_name t = record { name = name_bytes t.kind; place = t.place }
 
 abbrev pub numeral_of : Place → TokenKind → Expr
-numeral_of place (kind.Number value unsigned) = e.Number place value unsigned
-numeral_of place _ = e.Number place 0 false
+numeral_of place (kind.Number value unsigned long) = e.Number place value unsigned long
+numeral_of place _ = e.Number place 0 false false
 
 abbrev pub numeral : Token → Expr
 numeral t = numeral_of t.place t.kind
@@ -49,7 +49,8 @@ text_bytes _ = []
 abbrev pub value_types : List (Keyword × ValueType)
 value_types = (k.Bool, value_type.Scalar scalar.Bool) ∷ (k.Bool2, value_type.Vector scalar.Bool 2) ∷ (k.Bool3, value_type.Vector scalar.Bool 3) ∷ (k.Bool4, value_type.Vector scalar.Bool 4)
     ∷ (k.Int, value_type.Scalar scalar.Int) ∷ (k.Int2, value_type.Vector scalar.Int 2) ∷ (k.Int3, value_type.Vector scalar.Int 3) ∷ (k.Int4, value_type.Vector scalar.Int 4)
-    ∷ (k.Uint, value_type.Scalar scalar.Uint) ∷ (k.Uint2, value_type.Vector scalar.Uint 2) ∷ (k.Uint3, value_type.Vector scalar.Uint 3) ∷ (k.Uint4, value_type.Vector scalar.Uint 4) ∷ []
+    ∷ (k.Uint, value_type.Scalar scalar.Uint) ∷ (k.Uint2, value_type.Vector scalar.Uint 2) ∷ (k.Uint3, value_type.Vector scalar.Uint 3) ∷ (k.Uint4, value_type.Vector scalar.Uint 4)
+    ∷ (k.Int16, value_type.Scalar scalar.Int16) ∷ (k.Uint16, value_type.Scalar scalar.Uint16) ∷ (k.Int64, value_type.Scalar scalar.Int64) ∷ (k.Uint64, value_type.Scalar scalar.Uint64) ∷ []
 
 -- what a table has for a class, and the other where it has none
 abbrev pub at_class : {X : Type 0} → List (ℕ × X) → X → ℕ → X

@@ -1,5 +1,5 @@
 use sqlite_items::{Boxed, Items};
-use wg_words::{Name, Place, Word};
+use wg_words::{Name, Place};
 
 /// A name where it stands.
 #[derive(Debug, Drop)]
@@ -8,14 +8,19 @@ pub struct Named {
     pub place: Place,
 }
 
+/// A scalar type. `Int` and `Uint` have 32 bits; those of 16 and 64 bits are called wide.
 #[derive(Clone, Copy, Debug, PartialEq, Eq)]
 pub enum Scalar {
     Bool,
     Int,
     Uint,
+    Int16,
+    Uint16,
+    Int64,
+    Uint64,
 }
 
-/// A scalar, or a vector of 2, 3 or 4 of them.
+/// A scalar, or a vector of 2, 3 or 4 of them; no vector is of a wide scalar.
 #[derive(Clone, Copy, Debug, PartialEq, Eq)]
 pub enum ValueType {
     Scalar { of: Scalar },
@@ -67,8 +72,9 @@ pub enum BinaryOperator {
 pub enum Expr {
     Number {
         place: Place,
-        value: Word,
+        value: u64,
         unsigned: bool,
+        long: bool,
     },
     Text {
         place: Place,

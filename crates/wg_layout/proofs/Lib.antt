@@ -1,2 +1,3 @@
 pub mod Capping
+pub mod FieldWords
 pub mod Ranges

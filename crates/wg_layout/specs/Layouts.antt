@@ -2,7 +2,8 @@
 use Rattle.std.specs.Prelude.{◌≡◌, List, map}
 use Rattle.wg_typed.specs.declared.types.TypeTree.{TypeTree}
 use Rattle.wg_typed.specs.declared.typed.TypedStruct.{TypedStruct}
-use Rattle.wg_typed.specs.Layout.{Range, words_of, field_ranges, stride_of}
+use Rattle.wg_machine.specs.Units.{stride_of}
+use Rattle.wg_typed.specs.Layout.{Range, words_of, field_ranges}
 use Rattle.wg_layout.specs.declared.parts.FieldRange.{FieldRange}
 use Rattle.wg_layout.specs.declared.parts.Layout.{Layout}
 

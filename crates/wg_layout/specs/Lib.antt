@@ -1,3 +1,4 @@
+pub mod FieldWords
 pub mod Fields
 pub mod Layouts
 pub mod Sizes

@@ -1,10 +1,11 @@
 ghost use Rattle.std.specs.Prelude.{◌≡◌, ◌≤◌, map, IfOk};
-ghost use Rattle.wg_typed.specs.Layout.{words_of, AreInOrder, field_ranges, sizes_of, types_of, end_after, ranges_after};
+ghost use Rattle.wg_words.specs.declared.limits.TheConstants.{MOST_TYPE_WORDS};
+ghost use Rattle.wg_typed.specs.Layout.{words_of, AreInOrder, field_ranges, extents_of, types_of, end_after, ranges_after};
 ghost use Rattle.wg_layout.specs.Layouts.{IsLayout, range_of};
 ghost use Rattle.wg_layout.specs.Sizes.{table_of};
 
 use crate::parts::{FieldRange, FieldRanges, Layout};
-use crate::sizes::Sizes;
+use crate::sizes::{Sizes, round_up};
 use sqlite_items::Items as List;
 use std::alloc::{AllocError, Global};
 use wg_typed::{TypeTree, TypedField, TypedStruct};
@@ -18,7 +19,7 @@ pub fn layout(
 ) -> Result<Layout, AllocError>
     requires table { sizes.now ≡ table_of structs.now }
     requires order { AreInOrder structs.now }
-    requires within { words_of structs.now of.now ≤ 8192 }
+    requires within { words_of structs.now of.now ≤ MOST_TYPE_WORDS }
     ensures { IfOk result (λ l. IsLayout structs.now of.now l) }
 {
     let words = sizes.words(of);
@@ -39,7 +40,7 @@ fn fields(
 ) -> Result<FieldRanges, AllocError>
     requires table { sizes.now ≡ table_of structs.now }
     requires order { AreInOrder structs.now }
-    requires within { words_of structs.now of.now ≤ 8192 }
+    requires within { words_of structs.now of.now ≤ MOST_TYPE_WORDS }
     ensures { IfOk result (λ fields. fields ≡ map range_of (field_ranges structs.now of.now)) }
 {
     let TypeTree::Struct { number } = *of else {
@@ -58,14 +59,16 @@ fn ranges(
     fields: &List<TypedField>,
 ) -> Result<FieldRanges, AllocError>
     requires table { sizes.now ≡ table_of structs.now }
-    requires within { end_after (sizes_of structs.now) 0 (types_of fields.now) ≤ 8192 }
-    ensures { IfOk result (λ ranges. ranges ≡ map range_of (ranges_after (sizes_of structs.now) 0 (types_of fields.now))) }
+    requires within { end_after (extents_of structs.now) 0 (types_of fields.now) ≤ MOST_TYPE_WORDS }
+    ensures { IfOk result (λ ranges. ranges ≡ map range_of (ranges_after (extents_of structs.now) 0 (types_of fields.now))) }
 {
     let mut ranges = FieldRanges::new(alloc);
     let mut at = 0;
     for field in fields.as_slice() {
-        let to = at + sizes.words(&field.of);
-        ranges.push(FieldRange { from: at, to })?;
+        let of = sizes.extent(&field.of);
+        let from = round_up(of.even, at);
+        let to = from + of.words;
+        ranges.push(FieldRange { from, to })?;
         at = to;
     }
     Ok(ranges)

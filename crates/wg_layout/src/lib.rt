@@ -2,11 +2,13 @@
 #![tactic(auto)]
 
 mod field;
+mod law;
 mod layouts;
 mod parts;
 mod sizes;
 
 pub use field::{read_field, write_field};
+pub use law::values_hold_their_fields;
 pub use layouts::layout;
 pub use parts::{FieldRange, FieldRanges, Layout};
 pub use sizes::Sizes;

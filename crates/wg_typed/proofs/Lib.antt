@@ -3,4 +3,4 @@ pub mod ConstChains
 pub mod Spans
 pub mod Earlier
 pub mod Weighing
-pub mod Integers
+pub mod Conversions

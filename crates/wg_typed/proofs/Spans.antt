@@ -33,6 +33,7 @@ kind_span earlier (TypedKind-F.Element buffer index) = 1 + index
 kind_span earlier (TypedKind-F.Load buffer address) = 1 + address
 kind_span earlier (TypedKind-F.Input index) = 1 + option_count index
 kind_span earlier TypedKind-F.Count = 1
+kind_span earlier TypedKind-F.Finished = 1
 kind_span earlier (TypedKind-F.Handle handle index) = 1 + option_count index
 kind_span earlier (TypedKind-F.IsValid output element) = 1 + option_count element
 kind_span earlier TypedKind-F.Levels = 1

@@ -1,65 +1,80 @@
--- The value of a `const`: word arithmetic on `int` and `uint`, by the operators of HLSL Shader Model 6.8. A truth is the `int` 1 or 0.
-use Rattle.std.specs.Prelude.{ℕ, Bool, true, false, ◌&&◌, ◌||◌, not, nat_lt, if◌then◌else◌, List, [], ◌∷◌, map, Option, Some, None}
+-- The value of a `const`: arithmetic on whole numbers of 16, 32 and 64 bits, by the operators of HLSL Shader Model 6.8. A truth is the `int` 1 or 0.
+use Rattle.std.specs.Prelude.{ℕ, ◌%◌, ◌^◌, Bool, if◌then◌else◌, List, [], ◌∷◌, map, Option, Some, None}
 use Rattle.std.specs.Global.{Vec}
 use Rattle.std.specs.Str.{bytes_eq}
 use Rattle.wg_typed.specs.declared.types.ConstValue.{ConstValue}
-use Rattle.wg_typed.specs.Operators.{combined, prefixed}
+use Rattle.wg_typed.specs.Operators.{width_of, is_signed, integer, counted, wider, literal_scalar, words_for, converted_number, combined, prefixed, gives_truth, is_shift}
 use Rattle.wg_words.specs.Truth.{is_true}
 use Rattle.wg_tree.specs.declared.expr.Scalar.{Scalar}
 use Rattle.wg_tree.specs.declared.expr.Scalar.TheVariants as scalar
 use Rattle.wg_tree.specs.declared.expr.PrefixOperator.{PrefixOperator}
 use Rattle.wg_tree.specs.declared.expr.PrefixOperator.TheVariants as prefix
 use Rattle.wg_tree.specs.declared.expr.BinaryOperator.{BinaryOperator}
-use Rattle.wg_tree.specs.declared.expr.BinaryOperator.TheVariants as binary
 use Rattle.wg_tree.specs.declared.expr.Expr.{Expr}
 use Rattle.wg_tree.specs.declared.expr.Link.{Link}
 use Rattle.wg_tree.specs.declared.expr.Expr.TheFolds.{fold-Expr}
 use Rattle.wg_tree.specs.declared.expr.Expr.TheOpen.{Expr-F, Form-F, Link-F}
 
+-- ---- numbers with their types
+
+-- the scalar of a constant
+abbrev pub const_scalar : ConstValue → Scalar
+const_scalar c = integer c.bits c.signed
+
+-- a constant's number in its scalar; a value that has more bits counts by its low ones
+abbrev pub const_number : ConstValue → ℕ
+const_number c = c.value % 2 ^ width_of (const_scalar c)
+
+-- a number of a scalar as a constant; a `bool` counts as `int`
+abbrev pub constant_of : Scalar → ℕ → ConstValue
+constant_of s n = record { value = n; signed = is_signed (counted s); bits = width_of (counted s) }
+
+-- a constant's number as one of a scalar
+abbrev pub number_as : Scalar → ConstValue → ℕ
+number_as s c = converted_number (const_scalar c) s (const_number c)
+
+-- a constant that is declared with the scalar: its value is converted
+abbrev pub const_as : Scalar → ConstValue → ConstValue
+const_as s c = constant_of s (number_as s c)
+
+-- the words of a constant that is declared with the scalar
+abbrev pub const_words : Scalar → ConstValue → List ℕ
+const_words s c = words_for s (number_as s c ∷ [])
+
+-- a number as it is written, with its suffixes `u` and `l`
+abbrev pub literal : ℕ → Bool → Bool → ConstValue
+literal value unsigned long = constant_of (literal_scalar value unsigned long) value
+
 -- ---- operators
 
--- an `int` or a `uint`
-abbrev pub number : Bool → ℕ → ConstValue
-number signed word = record { value = word; signed = signed }
+-- the scalar in which the operator takes both: a shift does by its left one, every other by what is common to them
+abbrev pub reckoned_in : BinaryOperator → ConstValue → ConstValue → Scalar
+reckoned_in operator a b = if is_shift operator then const_scalar a else wider (const_scalar a) (const_scalar b)
 
-abbrev pub integer : Bool → Scalar
-integer signed = if signed then scalar.Int else scalar.Uint
+-- what the operator gives on two numbers of the scalar
+abbrev pub combined_value : BinaryOperator → Scalar → ℕ → ℕ → ConstValue
+combined_value operator s a b = constant_of (if gives_truth operator then scalar.Int else s) (combined operator s a b)
 
--- whether what the operator gives is a truth
-abbrev pub gives_truth : BinaryOperator → Bool
-gives_truth binary.Less = true
-gives_truth binary.Greater = true
-gives_truth binary.AtMost = true
-gives_truth binary.AtLeast = true
-gives_truth binary.Equal = true
-gives_truth binary.NotEqual = true
-gives_truth binary.And = true
-gives_truth binary.Or = true
-gives_truth _ = false
-
--- whether the operator takes its two numbers as `int`: a shift does by its left one, every other where both are
-abbrev pub is_taken_signed : BinaryOperator → ConstValue → ConstValue → Bool
-is_taken_signed binary.ShiftLeft a b = a.signed
-is_taken_signed binary.ShiftRight a b = a.signed
-is_taken_signed _ a b = a.signed && b.signed
-
--- an operator on two words, where both are `int`, or both `uint`
-abbrev pub combined_value : BinaryOperator → Bool → ℕ → ℕ → ConstValue
-combined_value operator signed a b = number (gives_truth operator || signed) (combined operator (integer signed) a b)
+-- the operator on both as numbers of the scalar; what is converted of a shift's count is more than a shift looks at
+abbrev pub applied_in : BinaryOperator → Scalar → ConstValue → ConstValue → ConstValue
+applied_in operator s a b = combined_value operator s (number_as s a) (number_as s b)
 
 abbrev pub applied : BinaryOperator → ConstValue → ConstValue → ConstValue
-applied operator a b = combined_value operator (is_taken_signed operator a b) a.value b.value
+applied operator a b = applied_in operator (reckoned_in operator a b) a b
 
-abbrev pub is_not : PrefixOperator → Bool
-is_not prefix.Not = true
-is_not _ = false
+-- `!` gives a truth, every other prefix a number of the operand's scalar
+abbrev pub prefix_scalar : PrefixOperator → Scalar → Scalar
+prefix_scalar prefix.Minus s = s
+prefix_scalar prefix.Plus s = s
+prefix_scalar prefix.Not s = scalar.Int
+prefix_scalar prefix.Complement s = s
 
-abbrev pub prefixed_number : PrefixOperator → ConstValue → ConstValue
-prefixed_number operator a = number (is_not operator || a.signed) (prefixed operator (integer a.signed) a.value)
+abbrev pub prefixed_constant : PrefixOperator → ConstValue → ConstValue
+prefixed_constant operator a = constant_of (prefix_scalar operator (const_scalar a)) (prefixed operator (const_scalar a) (const_number a))
 
 -- the two results of a choice have a common type
 abbrev pub chosen : ConstValue → ConstValue → ConstValue → ConstValue
-chosen test a b = number (a.signed && b.signed) (if is_true test.value then a.value else b.value)
+chosen test a b = const_as (wider (const_scalar a) (const_scalar b)) (if is_true (const_number test) then a else b)
 
 -- ---- expressions, where names have these values
 
@@ -72,7 +87,7 @@ Right = BinaryOperator × Option ConstValue
 
 abbrev pub prefixed_value : PrefixOperator → Option ConstValue → Option ConstValue
 prefixed_value operator None = None
-prefixed_value operator (Some a) = Some (prefixed_number operator a)
+prefixed_value operator (Some a) = Some (prefixed_constant operator a)
 
 abbrev pub applied_value : BinaryOperator → Option ConstValue → Option ConstValue → Option ConstValue
 applied_value operator (Some a) (Some b) = Some (applied operator a b)
@@ -89,11 +104,7 @@ chosen_value _ _ _ = None
 
 -- A `const` is made of numbers, names, brackets, prefix and two-sided operators and `?:`; no other expression has a value.
 abbrev pub expr_value : Known → Expr-F (Option ConstValue) (Unit {0}) Right → Option ConstValue
-expr_value known (Expr-F.Number place value unsigned) = Some (number (not unsigned && not (is_large value)) value)
-  where
-    -- a number without a suffix is a `uint` from 2^31 on
-    is_large : ℕ → Bool
-    is_large n = not (nat_lt n 2147483648)
+expr_value known (Expr-F.Number place value unsigned long) = Some (literal value unsigned long)
 expr_value known (Expr-F.Text place bytes) = None
 expr_value known (Expr-F.Truth place b) = None
 expr_value known (Expr-F.Name name) = known name.name

@@ -1,6 +1,6 @@
--- Numbers of things in order, each of which is made from those of the things before it.
-use Rattle.std.specs.Prelude.{ℕ, List, [], ◌∷◌, ◌++◌}
+-- What is known of things in order, each of which is made from what is known of the things before it.
+use Rattle.std.specs.Prelude.{List, [], ◌∷◌, ◌++◌}
 
-abbrev pub each_after : {X : Type 0} → (List ℕ → X → ℕ) → List ℕ → List X → List ℕ
-each_after number earlier [] = earlier
-each_after number earlier (x ∷ rest) = each_after number (earlier ++ number earlier x ∷ []) rest
+abbrev pub each_after : {X Y : Type 0} → (List Y → X → Y) → List Y → List X → List Y
+each_after make earlier [] = earlier
+each_after make earlier (x ∷ rest) = each_after make (earlier ++ make earlier x ∷ []) rest

@@ -2,6 +2,7 @@
 -- Every expression counts 1: a number, a name, a read, a prefix, a written conversion, a choice, a constructor, a call, each form of an access and
 -- each operator of a chain. A bracket and an object's name count nothing. Every statement counts 1, and so does each step and each declaration.
 use Rattle.std.specs.Prelude.{ℕ, ◌+◌, List, [], ◌∷◌, map, Option, Some, None, unwrap_or, slice_get, take, min}
+use Rattle.wg_words.specs.declared.limits.TheConstants.{MOST_CODE_WEIGHT}
 use Rattle.wg_typed.specs.Earlier.{each_after}
 use Rattle.wg_typed.specs.declared.types.TypeTree.{TypeTree}
 use Rattle.wg_typed.specs.declared.typed_expr.TypedExpr.{TypedExpr}
@@ -44,6 +45,7 @@ kind_weight earlier (TypedKind-F.Element buffer index) = 1 + index
 kind_weight earlier (TypedKind-F.Load buffer address) = 1 + address
 kind_weight earlier (TypedKind-F.Input index) = 1 + if_any index
 kind_weight earlier TypedKind-F.Count = 1
+kind_weight earlier TypedKind-F.Finished = 1
 kind_weight earlier (TypedKind-F.Handle handle index) = 1 + if_any index
 kind_weight earlier (TypedKind-F.IsValid output element) = 1 + if_any element
 kind_weight earlier TypedKind-F.Levels = 1
@@ -105,7 +107,7 @@ destination_weight earlier (destination.Raw buffer address) = expr_weight earlie
 abbrev pub interlocked_weight : List ℕ → Interlocked → ℕ
 interlocked_weight earlier i = destination_weight earlier i.destination + option_weight earlier i.compare + expr_weight earlier i.value + option_weight earlier i.old
 
--- what an `op=` converts is not written, so it counts nothing
+-- the conversion of an `op=`'s right side is written there and counts; that of its left side and back again is not
 abbrev pub step_weight : List ℕ → TypedStep → ℕ
 step_weight earlier (step.Evaluate value) = 1 + expr_weight earlier value
 step_weight earlier (step.Call function arguments) = 1 + exprs_weight earlier arguments + called_weight earlier function
@@ -175,4 +177,4 @@ weight_of functions function = called_weight (weights functions) function
 
 -- a sum, or the first number above the limit
 abbrev pub raised : ℕ → ℕ → ℕ
-raised n more = min 65537 (n + more)
+raised n more = min (MOST_CODE_WEIGHT + 1) (n + more)

@@ -52,6 +52,17 @@ pub enum TypedParameterType {
     },
 }
 
+/// A system value that an entry function may take (HLSL, "Semantics" of compute shaders).
+#[derive(Clone, Copy, Debug, PartialEq, Eq)]
+pub enum SystemValue {
+    DispatchThreadId,
+    GroupId,
+    GroupThreadId,
+    GroupIndex,
+}
+
+/// A parameter. `system` is the system value that an entry function's parameter takes; `uniform` where that is `SV_GroupID`
+/// and the body never changes the parameter, so that all lanes of a launch have one value in it.
 #[derive(Drop)]
 pub struct TypedParameter {
     pub attributes: Items<TypedAttribute>,
@@ -59,6 +70,24 @@ pub struct TypedParameter {
     pub of: TypedParameterType,
     pub name: Named,
     pub semantic: Option<Named>,
+    pub system: Option<SystemValue>,
+    pub uniform: bool,
+}
+
+/// A local variable; `uniform` where it is `const` and its start value is one on all lanes of a launch.
+#[derive(Clone, Copy, Debug, PartialEq, Eq)]
+pub struct TypedLocal {
+    pub of: TypeTree,
+    pub uniform: bool,
+}
+
+/// What makes a function a node: the lanes of a thread group, and the numbers of the parameters that are its input and its
+/// outputs.
+#[derive(Drop)]
+pub struct TypedEntry {
+    pub lanes: u32,
+    pub input: Option<u32>,
+    pub outputs: Items<u32>,
 }
 
 /// A handle of new records: the number of the output from which it requests them, among the function's outputs.
@@ -69,15 +98,16 @@ pub struct TypedHandle {
     pub output: u32,
 }
 
-/// A function, with the types of its locals and its handles in the order of their declarations. It has no result type
-/// where it is `void`.
+/// A function, with its locals and its handles in the order of their declarations. It has no result type where it is
+/// `void`, and `entry` where it is a node.
 #[derive(Drop)]
 pub struct TypedFunction {
+    pub entry: Option<TypedEntry>,
     pub attributes: Items<TypedAttribute>,
     pub result: Option<TypeTree>,
     pub name: Named,
     pub parameters: Items<TypedParameter>,
-    pub locals: Items<TypeTree>,
+    pub locals: Items<TypedLocal>,
     pub handles: Items<TypedHandle>,
     pub body: Items<TypedStmt>,
 }

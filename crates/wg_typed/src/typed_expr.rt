@@ -67,6 +67,8 @@ pub enum TypedKind {
     },
     /// `Count()` of the input.
     Count,
+    /// `FinishedCrossGroupSharing()` of the input.
+    Finished,
     /// A record of a handle: `Get()`, `Get(index)` or `[index]`.
     Handle {
         handle: u32,

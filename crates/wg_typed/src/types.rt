@@ -1,5 +1,4 @@
 use wg_tree::Scalar;
-use wg_words::Word;
 
 /// What an array is made of.
 #[derive(Clone, Copy, Debug, PartialEq, Eq)]
@@ -18,9 +17,28 @@ pub enum TypeTree {
     Array { of: ElementType, size: u32 },
 }
 
-/// The value of a `const`: a word, and whether its type is `int`.
+/// The value of a `const`: a word of 16, 32 or 64 bits, and whether its type is signed.
 #[derive(Clone, Copy, Debug, PartialEq, Eq)]
 pub struct ConstValue {
-    pub value: Word,
+    pub value: u64,
     pub signed: bool,
+    pub bits: u32,
+}
+
+/// What a type takes: its words, and whether it has a part of 64 bits, so that it begins at an even word.
+#[derive(Clone, Copy, Debug, PartialEq, Eq)]
+pub struct Extent {
+    pub words: u32,
+    pub even: bool,
+}
+
+/// What a word of a value is, so far as reading it from memory needs it: a truth, a number of 16 bits, a word between two
+/// parts, or any word as it is.
+#[derive(Clone, Copy, Debug, PartialEq, Eq)]
+pub enum WordMark {
+    Plain,
+    Truth,
+    Signed16,
+    Unsigned16,
+    Between,
 }

@@ -1,4 +1,5 @@
-ghost use Rattle.std.specs.Prelude.{◌≡◌, ◌<◌, ◌≤◌, length, min};
+ghost use Rattle.std.specs.Prelude.{◌≡◌, ◌+◌, ◌<◌, ◌≤◌, length, min};
+ghost use Rattle.wg_words.specs.declared.limits.TheConstants.{MOST_CODE_WEIGHT};
 ghost use Rattle.wg_typed.specs.Weight.{weight_of, weights_before, raised, total, expr_weight, exprs_weight, option_weight, links_weight, link_weight_of, forms_weight, form_weight, called_weight, destination_weight, interlocked_weight, step_weight, steps_weight, declared_weight, start_weight, stmt_weight, body_weight};
 
 use crate::typed::{Typed, TypedFunction};
@@ -7,15 +8,16 @@ use crate::typed_stmt::{
     Destination, Interlocked, TypedDeclarator, TypedStart, TypedStep, TypedStmt,
 };
 use sqlite_items::{Boxed, Items};
+use wg_words::limits::MOST_CODE_WEIGHT;
 
 /// One more than the greatest weight that an entry function may have.
-const ABOVE: u32 = 65_537;
+const ABOVE: u32 = MOST_CODE_WEIGHT + 1;
 
 /// The weight of a function: how many statements and expressions its body has, with the weight of each function where it is
 /// called (this project's own rule); 65,537 where it has more than 65,536.
 pub fn weight(typed: &Typed, function: u32) -> u32
     requires { function < length typed.now.functions }
-    ensures { result ≡ min 65537 (weight_of typed.now.functions function) }
+    ensures { result ≡ min (MOST_CODE_WEIGHT + 1) (weight_of typed.now.functions function) }
 {
     let body = &typed.functions.as_slice()[function as usize].body;
     add_body(&typed.functions, function, body, 0)
@@ -46,6 +48,7 @@ fn add_expr(functions: &Items<TypedFunction>, before: u32, expr: &TypedExpr, so_
         | TypedKind::Parameter { .. }
         | TypedKind::Shared { .. }
         | TypedKind::Count
+        | TypedKind::Finished
         | TypedKind::Levels
         | TypedKind::Zeros => one_more(so_far),
         TypedKind::Element { index: inner, .. }
@@ -366,6 +369,3 @@ fn add_interlocked(
     let so_far = add_expr(functions, before, &interlocked.value, so_far);
     add_option(functions, before, &interlocked.old, so_far)
 }
-
-#[cfg(test)]
-mod tests;

@@ -10,17 +10,17 @@ use Rattle.wg_typed.proofs.weigh.+weight.Goals.{add_called-then-so_far-ge-ABOVE-
 pub add_called-returns-then-so_far-ge-ABOVE : goal.add_called-returns-then-so_far-ge-ABOVE
 add_called-returns-then-so_far-ge-ABOVE t c = elim c.then-so_far-ge-ABOVE.branch [
   | add_called-then-so_far-ge-ABOVE-via-then-so_far-ge-ABOVE w ↦ omega (arith, c.min.ensures, w.if-so_far-ge-ABOVE)
-  | add_called-then-so_far-ge-ABOVE-via-else-so_far-ge-ABOVE+then-function-before w ↦ let e = none_before function_weight c.args.functions.now c.args.before c.args.function (omega (arith, w.if-function-before)) in omega (arith, c.min.ensures, e)
+  | add_called-then-so_far-ge-ABOVE-via-else-so_far-ge-ABOVE+then-function-before w ↦ let e = none_before function_weight 0 c.args.functions.now c.args.before c.args.function (omega (arith, w.if-function-before)) in omega (arith, c.min.ensures, e)
 ]
 
 pub add_called-add_body-requires : goal.add_called-add_body-requires
-add_called-add_body-requires t c = (let e = one_before function_span c.args.functions.now c.args.before c.args.function c.in-Some.called.now (omega (arith, c.if-function-before.false)) c.in-Some.ensures.value in omega (arith, e), tt)
+add_called-add_body-requires t c = (let e = one_before function_span 0 c.args.functions.now c.args.before c.args.function c.in-Some.called.now (omega (arith, c.if-function-before.false)) c.in-Some.ensures.value in omega (arith, e), tt)
 
 pub add_called-returns-in-Some : goal.add_called-returns-in-Some
-add_called-returns-in-Some t c = let e = one_before function_weight c.args.functions.now c.args.before c.args.function c.in-Some.called.now (omega (arith, c.if-function-before.false)) c.in-Some.ensures.value in omega (arith, e, c.add_body.ensures)
+add_called-returns-in-Some t c = let e = one_before function_weight 0 c.args.functions.now c.args.before c.args.function c.in-Some.called.now (omega (arith, c.if-function-before.false)) c.in-Some.ensures.value in omega (arith, e, c.add_body.ensures)
 
 pub add_called-returns-in-None : goal.add_called-returns-in-None
-add_called-returns-in-None t c = let e = none_past function_weight c.args.functions.now c.args.before c.args.function c.in-None.ensures.value in omega (arith, e, c.min-in-None.ensures)
+add_called-returns-in-None t c = let e = none_past function_weight 0 c.args.functions.now c.args.before c.args.function c.in-None.ensures.value in omega (arith, e, c.min-in-None.ensures)
 
 pub add_exprs-add_expr-so_far-requires : goal.add_exprs-add_expr-so_far-requires
 add_exprs-add_expr-so_far-requires t c = (let le = item_within (expr_span (spans_before c.args.functions.now c.args.before)) c.as_slice-value-items.result.now c.loop-value.value-index c.value-item.result c.value-item.is c.loop-value-test.true in let same = ap (λ l. total (map (expr_span (spans_before c.args.functions.now c.args.before)) l)) c.as_slice-value-items.ensures in omega (arith, le, same), tt)

@@ -2,14 +2,14 @@
 use Rattle.std.proofs.Common.{◌≡◌, ℕ, Bool, true, false, not, cond, List, [], ◌∷◌, ◌++◌, length, Option, Some, None, refl}
 use Rattle.std.specs.Prelude.{◌||◌, ◌==◌, is_none}
 use Rattle.wg_words.specs.declared.place.Place.{Place}
-use Rattle.wg_typing.specs.Layers.{Part, Piece, word, zero_word, other}
+use Rattle.wg_typing.specs.Layers.{Part, Piece, word, zero_word, other, misused}
 use Rattle.wg_typing.specs.Maybe.{and_then, where_true}
 use Rattle.wg_typing.specs.Named.{at_name}
 use Rattle.wg_typing.specs.RulesBadBarrier.{barrier_in_plain}
 use Rattle.wg_typing.specs.RulesMismatchCall.{unfit_flags}
 use Rattle.wg_typing.specs.RulesShared.{flags_whole, all_pieces_whole, unknown_flags}
 use Rattle.wg_typing.specs.RulesUnknownName.{places_of}
-use Rattle.wg_typing.specs.Scope.{Context, Around, in_entry, in_plain, in_const, look}
+use Rattle.wg_typing.specs.Scope.{Context, Around, in_entry, in_plain, in_const, in_attribute, look}
 use Rattle.wg_typing.specs.Sites.{at_if}
 use Rattle.wg_typing.specs.TypingBarrier.{Flag, memory, scope, an_object, broken_flag, no_flag, flag_of, flag_word, flag, memory_flags, scope_flags, piece_broken, any_broken, orders, syncs_of, barrier_value, outside_plain}
 use Rattle.wg_tree.specs.declared.expr.Named.{Named}
@@ -17,7 +17,7 @@ use Rattle.wg_typing.specs.declared.scope.Meant.{Meant}
 use Rattle.wg_typing.specs.declared.scope.Meant.TheVariants as meant
 use Rattle.wg_typing.specs.declared.scope.Object.TheVariants as object
 use Rattle.wg_typing.specs.declared.scope.Value.{Value}
-use Rattle.wg_typing.proofs.Facts.{Empty, Has, both, empty_if, empty_left, empty_right, has_is_none, has_then, has_through, holds_nowhere, is_false, not_false}
+use Rattle.wg_typing.proofs.Facts.{Empty, Has, both, empty_if, empty_left, empty_right, has_is_none, has_then, has_through, is_false, not_false}
 use Rattle.wg_typing.proofs.Methods.{three_for_two}
 use Rattle.wg_typing.proofs.Names.{AllStand, StandsIf, look_stands}
 
@@ -29,6 +29,7 @@ WholePieces (word name ∷ rest) = WholePieces rest
 WholePieces (zero_word ∷ rest) = WholePieces rest
 WholePieces (other true ∷ rest) = WholePieces rest
 WholePieces (other false ∷ rest) = ⊥
+WholePieces (misused ∷ rest) = WholePieces rest
 
 abbrev pub AllFlags : List Part → Type 0
 AllFlags [] = Unit {0}
@@ -40,6 +41,7 @@ whole_pieces (word name ∷ xs) ys h k = whole_pieces xs ys h k
 whole_pieces (zero_word ∷ xs) ys h k = whole_pieces xs ys h k
 whole_pieces (other true ∷ xs) ys h k = whole_pieces xs ys h k
 whole_pieces (other false ∷ xs) ys h k = absurd h
+whole_pieces (misused ∷ xs) ys h k = whole_pieces xs ys h k
 
 word_whole : (c : Context) (name : Named) (f : Flag) → flag c name ≡ f → (f ≡ broken_flag → ⊥) → piece_broken c (word name) ≡ false
 word_whole c name memory e n = rw e refl
@@ -61,7 +63,7 @@ not_broken (Some (meant.Shared variable of)) name s e = cc
 not_broken (Some (meant.Local local of constant)) name s e = cc
 not_broken (Some (meant.Parameter parameter of)) name s e = cc
 not_broken (Some (meant.Object (object.Buffer buffer of))) name s e = cc
-not_broken (Some (meant.Object (object.Input many record_type standing))) name s e = cc
+not_broken (Some (meant.Object (object.Input many record_type standing sharing))) name s e = cc
 not_broken (Some (meant.Object (object.Output output array record_type element))) name s e = cc
 not_broken (Some (meant.Object (object.Handle handle record_type))) name s e = cc
 not_broken (Some (meant.Function number is_entry result parameters chain)) name s e = cc
@@ -78,6 +80,7 @@ none_broken c (word name ∷ rest) s h = neither (piece_broken c (word name)) _ 
 none_broken c (zero_word ∷ rest) s h = none_broken c rest s h
 none_broken c (other true ∷ rest) s h = none_broken c rest s h
 none_broken c (other false ∷ rest) s h = absurd h
+none_broken c (misused ∷ rest) s h = none_broken c rest s h
 
 not_of : (b : Bool) → b ≡ false → not b ≡ true
 not_of true e = absurd (cc)
@@ -93,7 +96,8 @@ all_whole c (p ∷ rest) s h = both (not (any_broken c p.pieces)) _ (not_of (any
 pub barrier_stands : (around : Around) (xs : List Place) (v : Option Value) → Has v → (Empty xs → ⊥) → Empty (barrier_in_plain around xs) → Has (outside_plain around v)
 barrier_stands (in_entry lanes) xs v h n e = h
 barrier_stands in_plain xs v h n e = absurd (n e)
-barrier_stands (in_const allowed) xs v h n e = h
+barrier_stands in_const xs v h n e = h
+barrier_stands (in_attribute allowed) xs v h n e = h
 
 none_named : (names : List Named) → Empty (places_of names) → (length names == 0) ≡ true
 none_named [] h = refl
@@ -125,6 +129,6 @@ has_flags c name (m ∷ s ∷ []) n h l u f =
 has_flags c name (m ∷ s ∷ r ∷ rest) n h l u f = absurd (three_for_two (length rest) l)
 
 pub has_barrier_of : (c : Context) (name : Place) (parts : List Part) → AllStand c.names → AllFlags parts → Empty (places_of (unknown_flags c parts)) → Empty (unfit_flags c parts)
-    → Empty (cond (all_pieces_whole c parts) (at_if (not (length parts == 2)) name) []) → Empty (barrier_in_plain c.around (at_if (flags_whole c parts) name)) → Has (outside_plain c.around (barrier_value c name parts))
-has_barrier_of c name parts n h u f l p = barrier_stands c.around (at_if (flags_whole c parts) name) (barrier_value c name parts)
-    (has_flags c name parts n h (not_false _ (is_false _ name (empty_if _ _ (all_whole c parts n h) l))) u f) (holds_nowhere (flags_whole c parts) name (whole_flags c parts n h u)) p
+    → Empty (cond (all_pieces_whole c parts) (at_if (not (length parts == 2)) name) []) → Empty (barrier_in_plain c.around (name ∷ [])) → Has (outside_plain c.around (barrier_value c name parts))
+has_barrier_of c name parts n h u f l p = barrier_stands c.around (name ∷ []) (barrier_value c name parts)
+    (has_flags c name parts n h (not_false _ (is_false _ name (empty_if _ _ (all_whole c parts n h) l))) u f) (λ e. e) p

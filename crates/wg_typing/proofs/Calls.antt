@@ -4,23 +4,22 @@ use Rattle.std.specs.Prelude.{◌&&◌, ◌==◌}
 use Rattle.std.proofs.lemmas.Grind.{common_steps}
 use Rattle.wg_words.specs.declared.place.Place.{Place}
 use Rattle.wg_typing.specs.Conversions.{same_type, fits}
-use Rattle.wg_typing.specs.Layers.{Part, typed_part}
+use Rattle.wg_typing.specs.Layers.{Part, typed_part, call_of}
 use Rattle.wg_typing.specs.Maybe.{where_true}
 use Rattle.wg_typing.specs.RulesWrongArity.{miscounted_call}
 use Rattle.wg_typing.specs.RulesBadBarrier.{barrier_called}
 use Rattle.wg_typing.specs.RulesLimitPassed.{chain_beyond}
-use Rattle.wg_typing.specs.RulesMismatchCall.{is_given_back, passes, unfit_passed, same_length, unfit_call}
+use Rattle.wg_typing.specs.RulesMismatchCall.{passes, unfit_passed, same_length, unfit_call}
 use Rattle.wg_typing.specs.RulesNotAssignable.{can_change, fixed_passed, fixed_argument}
 use Rattle.wg_typing.specs.RulesOutOfProfile.{entry_called}
 use Rattle.wg_typing.specs.RulesRecursion.{itself_called}
-use Rattle.wg_typing.specs.RulesShared.{argument_parts, no_value, act_at, each_part, failing}
-use Rattle.wg_typing.specs.TypingActs.{is_output_act, is_syncing}
+use Rattle.wg_typing.specs.RulesShared.{argument_parts, no_value, each_part, failing}
 use Rattle.wg_typing.specs.RulesUnknownName.{unknown_call}
 use Rattle.wg_typing.specs.Scope.{Context}
 use Rattle.wg_typing.specs.TypingBarrier.{plain_barrier}
 use Rattle.wg_typing.specs.TypingCallee.{CalledName, plain, entry, itself, builtin, broken, unknown, on_numbers, interlocked, levels, barrier, barrier_of}
 use Rattle.wg_typing.specs.TypingCalls.{call_value}
-use Rattle.wg_typing.specs.TypingFunctionCall.{passed_place, passed_as, passed_all, chain_fits, call_of, plain_value}
+use Rattle.wg_typing.specs.TypingFunctionCall.{passed_place, passed_as, passed_all, chain_fits, plain_call, plain_value, is_given_back}
 use Rattle.wg_typing.specs.TypingInterlocked.{is_fixed}
 use Rattle.wg_tree.specs.declared.item.Direction.{Direction}
 use Rattle.wg_tree.specs.declared.item.Direction.TheVariants as direction
@@ -34,6 +33,7 @@ use Rattle.wg_typing.proofs.Methods.{some_for_none}
 use Rattle.wg_typing.proofs.Names.{AllStand, Called}
 use Rattle.wg_typing.proofs.Parts.{AllTyped, AllWhole, IsTyped, all_typed, has_fit, passes_test, said}
 use Rattle.wg_typing.proofs.Signatures.{has_intrinsic}
+use Rattle.wg_typing.specs.TypingActs.{called_at, is_output, is_sync}
 
 -- ---- plain functions
 
@@ -54,7 +54,7 @@ has_all_passed (a ∷ parameters) (p ∷ parts) l h e f =
     has_then (passed_as a.direction a.of p) _ (has_passed a.direction a.of p h.0 (empty_left (failing (passes a) (typed_part p)) _ e) (empty_left (cond (is_given_back a.direction) (failing can_change (typed_part p)) []) _ f)) (λ x q.
     has_then (passed_all parameters parts) _ (has_all_passed parameters parts (omega (arith, l)) h.1 (empty_right (failing (passes a) (typed_part p)) _ e) (empty_right (cond (is_given_back a.direction) (failing can_change (typed_part p)) []) _ f)) (λ y r. tt))
 
-has_called : (name : Place) (number : ℕ) (result : Option TypeTree) (arguments : List TypedExpr) → Has (call_of name number result arguments)
+has_called : (name : Place) (number : ℕ) (result : Option TypeTree) (arguments : List TypedExpr) → Has (plain_call name number result arguments)
 has_called name number None arguments = tt
 has_called name number (Some of) arguments = tt
 
@@ -79,8 +79,8 @@ pub record ClearCall (c : Context) (name : Place) (k : CalledName) (parts : List
   pub no_entry : Empty (entry_called name k)
   pub chained : Empty (chain_beyond name k)
   pub values : Empty (each_part no_value (argument_parts k parts))
-  pub outputs : Empty (each_part (λ p. act_at is_output_act p.value) (argument_parts k parts))
-  pub syncs : Empty (each_part (λ p. act_at is_syncing p.value) (argument_parts k parts))
+  pub outputs : Empty (each_part (λ p. called_at is_output (call_of p)) (argument_parts k parts))
+  pub syncs : Empty (each_part (λ p. called_at is_sync (call_of p)) (argument_parts k parts))
   pub fit : Empty (unfit_call c name k parts)
   pub assignable : Empty (fixed_argument k parts)
   pub counted : Empty (miscounted_call c name k parts)

@@ -1,9 +1,8 @@
 -- What has a value as a `const` is a number, so a static constant has no struct type.
-use Rattle.std.proofs.Common.{◌≡◌, ℕ, Bool, true, false, cond, List, [], ◌∷◌, map, Option, Some, None, refl, sym, subst}
-use Rattle.std.specs.Prelude.{nat_lt}
+use Rattle.std.proofs.Common.{◌≡◌, true, List, [], ◌∷◌, map, Option, Some, None, refl, sym, subst}
 use Rattle.wg_words.specs.declared.place.Place.{Place}
 use Rattle.wg_typing.specs.Maybe.{and_then}
-use Rattle.wg_typing.specs.Conversions.{numbers, type_of, fits, is_number, number_type, uint_type, truth_type, common_numbers}
+use Rattle.wg_typing.specs.Conversions.{numbers, type_of, fits, is_number, truth_type, common_numbers}
 use Rattle.wg_typed.specs.Constants.{Known, Right, expr_value, form_value, link_value, const_value, applied_value}
 use Rattle.wg_typed.specs.Constants.{chain_value as const_chain}
 use Rattle.wg_typing.specs.Scope.{Context, as_const, look, known_names, constant_if}
@@ -16,7 +15,6 @@ use Rattle.wg_tree.specs.declared.expr.PrefixOperator.{PrefixOperator}
 use Rattle.wg_tree.specs.declared.expr.Expr.{Expr, roll-Expr, fold-roll-Expr, ind-Expr, map-Expr}
 use Rattle.wg_tree.specs.declared.expr.Expr.TheOpen.{Expr-F}
 use Rattle.wg_tree.specs.declared.expr.Form.{Form, fold-Form}
-use Rattle.wg_tree.specs.declared.expr.Scalar.TheVariants as scalar
 use Rattle.wg_tree.specs.declared.expr.Link.{Link, fold-Link}
 use Rattle.wg_typed.specs.declared.types.ConstValue.{ConstValue}
 use Rattle.wg_typed.specs.declared.types.TypeTree.{TypeTree}
@@ -41,14 +39,6 @@ IsNumber None = Unit {0}
 then_number : {A : Type 0} (o : Option A) (f : A → Option Value) → ((a : A) → o ≡ Some a → IsNumber (f a)) → IsNumber (and_then o f)
 then_number None f k = tt
 then_number (Some a) f k = k a refl
-
-number_is : (n : ℕ) (unsigned : Bool) → is_number (number_type n unsigned) ≡ true
-number_is n true = refl
-number_is n false = either (nat_lt n 2147483648)
-  where
-    either : (b : Bool) → is_number (cond b (type.Scalar scalar.Int) uint_type) ≡ true
-    either true = refl
-    either false = refl
 
 named_is : (place : Place) (m : Option Meant) → StandsIf m → Has (constant_if m) → IsNumber (const_name place m)
 named_is place None s h = tt
@@ -112,7 +102,7 @@ choice_is place test a b = then_number (fit truth_type test) _ (λ x e. then_num
 
 module _ (c : Context) (stand : AllStand c.names) where
   abbrev here : Context
-  here = as_const [] c
+  here = as_const c
 
   abbrev known : Known
   known = known_names c.names
@@ -130,7 +120,7 @@ module _ (c : Context) (stand : AllStand c.names) where
   const_mapped {B} {F} {L} p q r y = map-Expr Expr Form Link (Option ConstValue) (Unit {0}) Right (const_value known) const_form const_link (map-Expr B F L Expr Form Link p q r y)
 
   level : {B F L : Type 0} (p : B → Expr) (q : F → Form) (r : L → Link) (holds : (b : B) → Claim (p b)) (y : Expr-F B F L) → Has (expr_value known (const_mapped p q r y)) → IsNumber (expr_seen here (mapped here p q r y)).part.value
-  level p q r holds (Expr-F.Number at n unsigned) h = number_is n unsigned
+  level p q r holds (Expr-F.Number at n unsigned long) h = refl
   level p q r holds (Expr-F.Text at bytes) h = tt
   level p q r holds (Expr-F.Truth at b) h = absurd h
   level p q r holds (Expr-F.Name name) h = named_is name.place (look name.name c.names) (look_stands name.name c.names stand) h

@@ -1,6 +1,6 @@
 -- Expressions in which no rule is broken have values.
-use Rattle.std.proofs.Common.{◌≡◌, Bool, true, false, cond, List, [], ◌∷◌, ◌++◌, map, Option, Some, None, refl, sym, ap, subst}
-use Rattle.std.specs.Prelude.{◌&&◌, ◌==◌}
+use Rattle.std.proofs.Common.{Bool, true, false, cond, List, [], ◌∷◌, map, Option, Some, None, sym, subst}
+use Rattle.std.specs.Prelude.{◌==◌}
 use Rattle.wg_typing.specs.Layers.{Layer, FormLayer, member, method, index, LinkLayer, map_form, map_link, map_layer, zero_word}
 use Rattle.wg_typing.specs.RulesShared.{form_parts, forms_parts, links_parts}
 use Rattle.wg_typing.specs.Scope.{Context}
@@ -9,7 +9,7 @@ use Rattle.wg_typing.specs.Site.{Site, AtFlag}
 use Rattle.wg_typing.specs.Typing.{BadBarrier, BadOutputCall}
 use Rattle.wg_typing.specs.TypingCallee.{CalledName, plain, entry, itself, builtin, broken, unknown, on_numbers, interlocked, levels, barrier, barrier_of, callee}
 use Rattle.wg_typing.specs.TypingExpr.{ExprForm, part_of, sites_of_all, flag_sites_of_all, form_sites, link_sites, argument_sites, inner_sites, link_flag_sites, flags_at, layer_value, layer_part, layer_sites, no_flag_sites, expr_seen, form_seen, link_seen, expr_form, part, sites_of}
-use Rattle.wg_typing.specs.TypingFlags.{is_or, all_or, another, linked_pieces}
+use Rattle.wg_typing.specs.TypingFlags.{all_or, another, linked_pieces, are_flags, chain_pieces}
 use Rattle.wg_tree.specs.declared.expr.Expr.{Expr, roll-Expr, fold-roll-Expr, ind-Expr, map-Expr}
 use Rattle.wg_tree.specs.declared.expr.Expr.TheOpen.{Expr-F, Form-F}
 use Rattle.wg_tree.specs.declared.expr.Form.{Form, fold-Form, roll-Form, fold-roll-Form, map-Form}
@@ -23,6 +23,7 @@ use Rattle.wg_typing.proofs.Facts.{Has}
 use Rattle.wg_typing.proofs.Layers.{AllGiven, Sound, has_layer}
 use Rattle.wg_typing.proofs.Parts.{AllWhole, Whole, all_whole_left}
 use Rattle.wg_typing.proofs.Sites.{Clear, Well, well_left, well_only, well_right}
+use Rattle.wg_typing.specs.TypingActs.{NamedCall, call_in}
 
 -- ---- expressions that are good: where no rule is broken in them they have values, and as flags of a barrier whole pieces
 
@@ -51,7 +52,7 @@ AllGoodLinks [] = Unit {0}
 AllGoodLinks (l ∷ rest) = GoodLink l × AllGoodLinks rest
 
 abbrev GoodParts : Layer ExprForm → Type 0
-GoodParts (Expr-F.Number at n unsigned) = Unit {0}
+GoodParts (Expr-F.Number at n unsigned long) = Unit {0}
 GoodParts (Expr-F.Text at bytes) = Unit {0}
 GoodParts (Expr-F.Truth at b) = Unit {0}
 GoodParts (Expr-F.Name name) = Unit {0}
@@ -101,7 +102,7 @@ whole_links [] g h = tt
 whole_links (l ∷ rest) g h = (g.0.whole (well_left h), whole_links rest g.1 (well_right h))
 
 all_given : (c : Context) (layer : Layer ExprForm) → GoodParts layer → Well (inner_sites c layer) → AllGiven c (map_layer part_of layer)
-all_given c (Expr-F.Number at n unsigned) g h = tt
+all_given c (Expr-F.Number at n unsigned long) g h = tt
 all_given c (Expr-F.Text at bytes) g h = tt
 all_given c (Expr-F.Truth at b) g h = tt
 all_given c (Expr-F.Name name) g h = tt
@@ -116,45 +117,43 @@ all_given c (Expr-F.Chain first rest) g h = (g.0.whole (well_left h), whole_link
 all_given c (Expr-F.Choice test a b) g h = (g.0.whole (well_left h), (g.1.0.whole (well_left (well_right h)), g.1.1.whole (well_right (well_right h))))
 
 layer_whole : (c : Context) (layer : Layer ExprForm) → Sound c → GoodParts layer → Well (layer_sites c layer) → Whole (layer_part c (map_layer part_of layer))
-layer_whole c layer s g h = has_layer c (map_layer part_of layer) s (all_given c layer g (well_left h)) (well_only (well_right h))
+layer_whole c layer s g h = has_layer c (map_layer part_of layer) s (all_given c layer g (well_left h)) (well_left (well_right h)) (well_left (well_right (well_right h))) (well_only (well_right (well_right (well_right h))))
 
 -- ---- what the expression is to a barrier
 
-another_whole : (v : Option Value) → Has v → Clear (AtFlag v) → WholePieces (another v)
-another_whole None h k = absurd h
-another_whole (Some (value.Typed of standing tree)) h k = tt
-another_whole (Some (value.Object object)) h k = tt
-another_whole (Some (value.Text bytes)) h k = tt
-another_whole (Some (value.Act name (act.Step step))) h k = tt
-another_whole (Some (value.Act name (act.Barrier true))) h k = absurd (k.clear BadBarrier)
-another_whole (Some (value.Act name (act.Barrier false))) h k = tt
-another_whole (Some (value.Act name (act.Request group output number element amount))) h k = absurd (k.clear BadOutputCall)
-another_whole (Some (value.Act name (act.Increment group output element amount))) h k = absurd (k.clear BadOutputCall)
-another_whole (Some (value.Act name (act.Complete handle))) h k = absurd (k.clear BadOutputCall)
+another_whole : (v : Option Value) (by_name : Option NamedCall) → Has v → Clear (AtFlag (call_in v by_name)) → WholePieces (another v)
+another_whole None by_name h k = absurd h
+another_whole (Some (value.Typed of standing tree)) by_name h k = tt
+another_whole (Some (value.Object object)) by_name h k = tt
+another_whole (Some (value.Text bytes)) by_name h k = tt
+another_whole (Some (value.Act name (act.Step step))) by_name h k = tt
+another_whole (Some (value.Act name (act.Barrier true))) by_name h k = absurd (k.clear BadBarrier)
+another_whole (Some (value.Act name (act.Barrier false))) by_name h k = tt
+another_whole (Some (value.Act name (act.Request group output number element amount))) by_name h k = absurd (k.clear BadOutputCall)
+another_whole (Some (value.Act name (act.Increment group output element amount))) by_name h k = absurd (k.clear BadOutputCall)
+another_whole (Some (value.Act name (act.Complete handle))) by_name h k = absurd (k.clear BadOutputCall)
+another_whole (Some (value.Act name (act.Finished tracked))) by_name h k = absurd (k.clear BadOutputCall)
 
 -- an expression that is no flag
 no_flag : (c : Context) (layer : Layer ExprForm) → Sound c → GoodParts layer → Well (no_flag_sites c layer) → WholePieces (another (layer_part c (map_layer part_of layer)).value)
-no_flag c layer s g h = another_whole (layer_part c (map_layer part_of layer)).value (layer_whole c layer s g (well_left h)) (well_only (well_right h))
+no_flag c layer s g h = another_whole (layer_part c (map_layer part_of layer)).value (layer_part c (map_layer part_of layer)).by_name (layer_whole c layer s g (well_left h)) (well_only (well_right h))
 
 zero_whole : (b : Bool) (v : Option Value) → WholePieces (another v) → WholePieces (cond b (zero_word ∷ []) (another v))
 zero_whole true v h = tt
 zero_whole false v h = h
 
-same_or : (rest : List (LinkLayer ExprForm)) → all_or (map (map_link part_of) rest) ≡ all_or rest
-same_or [] = refl
-same_or (l ∷ rest) = ap (λ b. is_or l.operator && b) (same_or rest)
-
 link_flags : (rest : List (LinkLayer ExprForm)) → AllGoodLinks rest → Well (all_sites (map link_flag_sites rest)) → WholePieces (linked_pieces (map (map_link part_of) rest))
 link_flags [] g h = tt
 link_flags (l ∷ rest) g h = whole_pieces (part_of l.operand).pieces _ (g.0.flags (well_left h)) (link_flags rest g.1 (well_right h))
 
-chain_flags : (b : Bool) (own : Sites Site) (v : Option Value) (first : ExprForm) (rest : List (LinkLayer ExprForm)) → (Well own → WholePieces (another v)) → Good first → AllGoodLinks rest → Well (cond b (first.flag_sites & all_sites (map link_flag_sites rest)) own)
-    → WholePieces (cond b ((part_of first).pieces ++ linked_pieces (map (map_link part_of) rest)) (another v))
-chain_flags true own v first rest w g k h = whole_pieces (part_of first).pieces _ (g.flags (well_left h)) (link_flags rest k (well_right h))
-chain_flags false own v first rest w g k h = w h
+chain_flags : (b joined : Bool) (own : Sites Site) (v : Option Value) (first : ExprForm) (rest : List (LinkLayer ExprForm)) → (Well own → WholePieces (another v)) → Good first → AllGoodLinks rest → Well (cond b (first.flag_sites & all_sites (map link_flag_sites rest)) own)
+    → WholePieces (cond b (chain_pieces joined (part_of first) (map (map_link part_of) rest)) (another v))
+chain_flags true true own v first rest w g k h = whole_pieces (part_of first).pieces _ (g.flags (well_left h)) (link_flags rest k (well_right h))
+chain_flags true false own v first rest w g k h = whole_pieces (part_of first).pieces _ (g.flags (well_left h)) (link_flags rest k (well_right h))
+chain_flags false joined own v first rest w g k h = w h
 
-layer_flags : (c : Context) (layer : Layer ExprForm) → Sound c → GoodParts layer → Well (flags_at (no_flag_sites c layer) layer) → WholePieces (layer_part c (map_layer part_of layer)).pieces
-layer_flags c (Expr-F.Number at n unsigned) s g h = zero_whole (n == 0) (layer_value c at (Expr-F.Number at n unsigned)) tt
+layer_flags : (c : Context) (layer : Layer ExprForm) → Sound c → GoodParts layer → Well (flags_at c (no_flag_sites c layer) layer) → WholePieces (layer_part c (map_layer part_of layer)).pieces
+layer_flags c (Expr-F.Number at n unsigned long) s g h = zero_whole (n == 0) (layer_value c at (Expr-F.Number at n unsigned long)) tt
 layer_flags c (Expr-F.Text at bytes) s g h = tt
 layer_flags c (Expr-F.Truth at b) s g h = tt
 layer_flags c (Expr-F.Name name) s g h = tt
@@ -166,8 +165,7 @@ layer_flags c (Expr-F.Cast at to operand) s g h = no_flag c (Expr-F.Cast at to o
 layer_flags c (Expr-F.Zeros at of) s g h = no_flag c (Expr-F.Zeros at of) s g h
 layer_flags c (Expr-F.Postfix first forms) s g h = no_flag c (Expr-F.Postfix first forms) s g h
 layer_flags c (Expr-F.Chain first rest) s g h =
-    subst (λ b. WholePieces (cond b (first.part.pieces ++ linked_pieces (map (map_link part_of) rest)) (another (layer_value c first.part.place (map_layer part_of (Expr-F.Chain first rest)))))) (sym (same_or rest))
-    (chain_flags (all_or rest) (no_flag_sites c (Expr-F.Chain first rest)) _ first rest (no_flag c (Expr-F.Chain first rest) s g) g.0 g.1 h)
+    chain_flags (are_flags c first.part (map (map_link part_of) rest)) (all_or (map (map_link part_of) rest)) (no_flag_sites c (Expr-F.Chain first rest)) _ first rest (no_flag c (Expr-F.Chain first rest) s g) g.0 g.1 h
 layer_flags c (Expr-F.Choice test a b) s g h = no_flag c (Expr-F.Choice test a b) s g h
 
 layer_good : (c : Context) (layer : Layer ExprForm) → Sound c → GoodParts layer → Good (expr_seen c layer)
@@ -197,7 +195,7 @@ abbrev pub mapped : {B F L : Type 0} → Context → (B → Expr) → (F → For
 mapped {B} {F} {L} c p q r y = map-Expr Expr Form Link ExprForm (FormLayer ExprForm) (LinkLayer ExprForm) (expr_form c) (form_of c) (link_of c) (map-Expr B F L Expr Form Link p q r y)
 
 good_parts : {B F L : Type 0} (c : Context) (p : B → Expr) (q : F → Form) (r : L → Link) (e : (b : B) → Good (expr_form c (p b))) (f : (x : F) → GoodForm (form_of c (q x))) (l : (x : L) → GoodLink (link_of c (r x))) (y : Expr-F B F L) → GoodParts (mapped c p q r y)
-good_parts c p q r e f l (Expr-F.Number at n unsigned) = tt
+good_parts c p q r e f l (Expr-F.Number at n unsigned long) = tt
 good_parts c p q r e f l (Expr-F.Text at bytes) = tt
 good_parts c p q r e f l (Expr-F.Truth at b) = tt
 good_parts c p q r e f l (Expr-F.Name name) = tt

@@ -60,6 +60,11 @@ pub both : (a b : Bool) → a ≡ true → b ≡ true → (a && b) ≡ true
 both true b e f = f
 both false b e f = e
 
+-- what follows from the one, where the one holds and not the other one fails
+pub implied : (a b : Bool) → a ≡ true → (a && not b) ≡ false → b ≡ true
+implied true b e f = not_false b f
+implied false b e f = absurd (cc)
+
 pub or_right : (a b : Bool) → b ≡ true → (a || b) ≡ true
 or_right true b e = refl
 or_right false b e = e
@@ -94,6 +99,10 @@ where_is false a e = absurd (cc)
 pub where_same : {A : Type 0} (b : Bool) (a x : A) → where_true b a ≡ Some x → a ≡ x
 where_same true a x e = some_value e
 where_same false a x e = absurd (cc)
+
+pub where_passes : {A : Type 0} (b : Bool) (a x : A) → where_true b a ≡ Some x → b ≡ true
+where_passes true a x e = refl
+where_passes false a x e = absurd (cc)
 
 pub through_where : {A B : Type 0} (b : Bool) (a : A) (f : A → Option B) → b ≡ true → and_then (where_true b a) f ≡ f a
 through_where true a f e = refl

@@ -8,11 +8,10 @@ use Rattle.wg_typing.specs.Maybe.{and_then, where_true}
 use Rattle.wg_typing.specs.RulesWrongArity.{miscounted_form, miscounted_method}
 use Rattle.wg_typing.specs.RulesMismatchExpr.{unfit_index, unfit_method, unfit_form}
 use Rattle.wg_typing.specs.RulesNotAssignable.{fixed_method, fixed_form}
-use Rattle.wg_typing.specs.RulesShared.{form_parts, forms_parts, act_at, before_form}
-use Rattle.wg_typing.specs.TypingActs.{is_output_act, is_syncing}
+use Rattle.wg_typing.specs.RulesShared.{form_parts, forms_parts, before_form}
 use Rattle.wg_typing.specs.RulesUnknownName.{unknown_form}
 use Rattle.wg_typing.specs.Scope.{Context}
-use Rattle.wg_typing.specs.TypingForms.{Reached, Along, at_typed, at_other, begin, finish, struct_field, picked, components_in, member_of, indexed, method_on, form_on, forms_on, over_forms}
+use Rattle.wg_typing.specs.TypingForms.{Reached, Along, at_typed, at_other, begin, finish, struct_field, picked, components_in, member_of, indexed, method_on, form_on, forms_on}
 use Rattle.wg_typing.specs.TypingObjects.{Method, method_of, method_value, takes, element_value, has_elements}
 use Rattle.wg_typed.specs.declared.types.TypeTree.{TypeTree}
 use Rattle.wg_typed.specs.declared.types.TypeTree.TheVariants as type
@@ -22,9 +21,14 @@ use Rattle.wg_typing.specs.declared.scope.Act.TheVariants as act
 use Rattle.wg_typing.specs.declared.scope.Object.{Object}
 use Rattle.wg_typing.specs.declared.scope.Value.{Value}
 use Rattle.wg_typing.specs.declared.scope.Value.TheVariants as value
-use Rattle.wg_typing.proofs.Facts.{Empty, Has, empty_if, empty_left, empty_right, first_only, has_is_none, has_then, has_through, is_false, not_false}
+use Rattle.wg_typing.proofs.Facts.{Empty, Has, empty_if, first_only, has_is_none, has_then, has_through, is_false, not_false}
 use Rattle.wg_typing.proofs.Methods.{has_element, has_method}
 use Rattle.wg_typing.proofs.Parts.{AllTyped, IsTyped, has_fit, said}
+use Rattle.wg_typing.specs.Site.{AtForm}
+use Rattle.wg_typing.specs.Typing.{UnknownName, Mismatch, NotAssignable, WrongArity, BadOutputCall, BadBarrier}
+use Rattle.wg_typing.specs.TypingExpr.{forms_at}
+use Rattle.wg_typing.proofs.Sites.{Clear, Well, well_left, well_right, well_only}
+use Rattle.wg_typing.specs.TypingActs.{called_at, is_output, is_sync, call_in}
 
 -- ---- what forms give
 
@@ -89,8 +93,8 @@ record ClearForm (c : Context) (place : Place) (a : Along) (f : FormLayer Part) 
   pub fit : Empty (unfit_form place a f)
   pub assignable : Empty (fixed_form a f)
   pub counted : Empty (miscounted_form a f)
-  pub outputs : Empty (before_form (act_at is_output_act) a f)
-  pub syncs : Empty (before_form (act_at is_syncing) a f)
+  pub outputs : Empty (before_form (λ v. called_at is_output (call_in v None)) a f)
+  pub syncs : Empty (before_form (λ v. called_at is_sync (call_in v None)) a f)
 
 has_index : (place : Place) (of : TypeTree) (p : Part) (r : Reached) → IsTyped p → Empty (unfit_index place of p) → Has (indexed of p r)
 has_index place (type.Scalar of) p r h e = absurd e
@@ -105,6 +109,7 @@ has_no_form c place name (act.Barrier false) f h = h.fit
 has_no_form c place name (act.Request group output number element amount) f h = h.outputs
 has_no_form c place name (act.Increment group output element amount) f h = h.outputs
 has_no_form c place name (act.Complete handle) f h = h.outputs
+has_no_form c place name (act.Finished tracked) f h = h.outputs
 
 has_form : (c : Context) (place : Place) (a : Along) (f : FormLayer Part) → Proper a → AllTyped (form_parts f) → ClearForm c place a f → Has (form_on c place a f)
 has_form c place (at_typed r) (member name) d t h = has_is_none (member_of c.structs r.of name.name r) (is_false _ name.place h.named)
@@ -128,33 +133,14 @@ has_form c place (at_other (value.Text bytes)) f d t h = absurd h.fit
 
 -- ---- all forms
 
--- forms at which no rule is broken
-pub record ClearForms (c : Context) (place : Place) (a : Option Along) (forms : List (FormLayer Part)) : Type 0 where
-  pub named : Empty (over_forms c place (unknown_form c) a forms)
-  pub fit : Empty (over_forms c place (unfit_form place) a forms)
-  pub assignable : Empty (over_forms c place fixed_form a forms)
-  pub counted : Empty (over_forms c place miscounted_form a forms)
-  pub outputs : Empty (over_forms c place (before_form (act_at is_output_act)) a forms)
-  pub syncs : Empty (over_forms c place (before_form (act_at is_syncing)) a forms)
-
-first_clear : (c : Context) (place : Place) (a : Along) (f : FormLayer Part) (rest : List (FormLayer Part)) → ClearForms c place (Some a) (f ∷ rest) → ClearForm c place a f
-first_clear c place a f rest h = record {
-  named = empty_left (unknown_form c a f) _ h.named;
-  fit = empty_left (unfit_form place a f) _ h.fit;
-  assignable = empty_left (fixed_form a f) _ h.assignable;
-  counted = empty_left (miscounted_form a f) _ h.counted;
-  outputs = empty_left (before_form (act_at is_output_act) a f) _ h.outputs;
-  syncs = empty_left (before_form (act_at is_syncing) a f) _ h.syncs;
-}
-
-rest_clear : (c : Context) (place : Place) (a : Along) (f : FormLayer Part) (rest : List (FormLayer Part)) → ClearForms c place (Some a) (f ∷ rest) → ClearForms c place (form_on c place a f) rest
-rest_clear c place a f rest h = record {
-  named = empty_right (unknown_form c a f) _ h.named;
-  fit = empty_right (unfit_form place a f) _ h.fit;
-  assignable = empty_right (fixed_form a f) _ h.assignable;
-  counted = empty_right (miscounted_form a f) _ h.counted;
-  outputs = empty_right (before_form (act_at is_output_act) a f) _ h.outputs;
-  syncs = empty_right (before_form (act_at is_syncing) a f) _ h.syncs;
+clear_form : (c : Context) (place : Place) (a : Along) (f : FormLayer Part) → Clear (AtForm c place a f) → ClearForm c place a f
+clear_form c place a f h = record {
+  named = h.clear UnknownName;
+  fit = h.clear Mismatch;
+  assignable = h.clear NotAssignable;
+  counted = h.clear WrongArity;
+  outputs = h.clear BadOutputCall;
+  syncs = h.clear BadBarrier;
 }
 
 all_typed_left : (xs ys : List Part) → AllTyped (xs ++ ys) → AllTyped xs
@@ -165,13 +151,13 @@ all_typed_right : (xs ys : List Part) → AllTyped (xs ++ ys) → AllTyped ys
 all_typed_right [] ys h = h
 all_typed_right (p ∷ xs) ys h = all_typed_right xs ys h.1
 
-has_all_forms : (c : Context) (place : Place) (a : Along) (forms : List (FormLayer Part)) → Proper a → AllTyped (forms_parts forms) → ClearForms c place (Some a) forms → Has (forms_on c place a forms)
+has_all_forms : (c : Context) (place : Place) (a : Along) (forms : List (FormLayer Part)) → Proper a → AllTyped (forms_parts forms) → Well (forms_at c place (Some a) forms) → Has (forms_on c place a forms)
 has_all_forms c place a [] d t h = tt
-has_all_forms c place a (f ∷ rest) d t h = has_then (form_on c place a f) _ (has_form c place a f d (all_typed_left (form_parts f) _ t) (first_clear c place a f rest h)) (λ b q.
-    has_all_forms c place b rest (subst ProperIf q (form_proper c place a f)) (all_typed_right (form_parts f) _ t) (subst (λ x. ClearForms c place x rest) q (rest_clear c place a f rest h)))
+has_all_forms c place a (f ∷ rest) d t h = has_then (form_on c place a f) _ (has_form c place a f d (all_typed_left (form_parts f) _ t) (clear_form c place a f (well_only (well_left h)))) (λ b q.
+    has_all_forms c place b rest (subst ProperIf q (form_proper c place a f)) (all_typed_right (form_parts f) _ t) (subst (λ x. Well (forms_at c place x rest)) q (well_right h)))
 
 -- a value with forms after it
-pub has_forms : (c : Context) (place : Place) (v : Option Value) (forms : List (FormLayer Part)) → Has v → AllTyped (forms_parts forms) → ClearForms c place (and_then v (λ v. Some (begin v))) forms
+pub has_forms : (c : Context) (place : Place) (v : Option Value) (forms : List (FormLayer Part)) → Has v → AllTyped (forms_parts forms) → Well (forms_at c place (and_then v (λ v. Some (begin v))) forms)
     → Has (and_then (and_then (and_then v (λ v. Some (begin v))) (λ a. forms_on c place a forms)) (λ a. Some (finish place a)))
 has_forms c place None forms h t k = absurd h
 has_forms c place (Some v) forms h t k = has_then (forms_on c place (begin v) forms) _ (has_all_forms c place (begin v) forms (begin_proper v) t k) (λ a q. tt)

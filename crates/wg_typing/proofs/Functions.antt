@@ -1,10 +1,10 @@
 -- Functions in which no rule is broken have typed forms.
 use Rattle.std.proofs.Common.{◌≡◌, ℕ, Bool, true, false, cond, List, [], ◌∷◌, map, Option, Some, None, refl, subst}
 use Rattle.wg_typing.specs.Maybe.{all_of}
-use Rattle.wg_typing.specs.Scope.{Context, Around, in_entry, in_plain, in_const, GivesBack, nothing, a_value, unsure, named_type}
+use Rattle.wg_typing.specs.Scope.{Context, Around, in_entry, in_plain, in_const, in_attribute, GivesBack, nothing, a_value, unsure, named_type, own_names, declare}
 use Rattle.wg_typing.specs.Typing.{UnknownName}
 use Rattle.wg_typing.specs.TypingEvents.{events, chain_of}
-use Rattle.wg_typing.specs.TypingFunction.{around_of, gives, gives_if, result_sites, head_context, parameter_context, first_before, body_context, body_sites, function_sites, result_if, function_tree, passed_if, passed_of, passed_in, function_if, function_meant}
+use Rattle.wg_typing.specs.TypingFunction.{around_of, gives, gives_if, result_sites, head_context, parameter_context, first_before, body_context, body_sites, function_sites, result_if, function_tree, passed_if, passed_of, passed_in, function_if, function_meant, named_context}
 use Rattle.wg_typing.specs.TypingHandle.{record_number}
 use Rattle.wg_typing.specs.TypingParameter.{Role, an_input, an_output, no_role, role_of, Before, one_more, takes_role, HeldRecords, empty, records, unsure_records, holds_named, holds, role_object, object_if, value_if, parameter_meant, with_parameter, parameters_after, parameter_type_sites, parameters_sites, object_tree, parameter_type_tree, parameter_tree, parameters_trees}
 use Rattle.wg_typing.specs.TypingSoFar.{Text, outside}
@@ -25,11 +25,13 @@ use Rattle.wg_typed.specs.declared.typed.TypedParameter.{TypedParameter}
 use Rattle.wg_typed.specs.declared.typed.TypedParameterType.{TypedParameterType}
 use Rattle.wg_typing.specs.declared.scope.Meant.{Meant}
 use Rattle.wg_typing.specs.declared.scope.Meant.TheVariants as meant
-use Rattle.wg_typing.proofs.Declarations.{AllHave, Declares, Fine, IsSure, has_record, may_stand}
+use Rattle.wg_typing.proofs.Declarations.{AllHave, Declares, Fine, IsSure, has_record, may_stand, fine_once}
 use Rattle.wg_typing.proofs.Facts.{Has, has_then, has_through, some_value, then_some}
 use Rattle.wg_typing.proofs.Names.{AllStand, NoneAllowed, Stands, has_type, stand_push, then_stands, unwrap_stands}
 use Rattle.wg_typing.proofs.Sites.{Well, well_left, well_only, well_right}
 use Rattle.wg_typing.proofs.Stmts.{has_body}
+use Rattle.wg_typing.specs.Named.{is_among}
+use Rattle.wg_typed.specs.declared.typed.TypedStruct.{TypedStruct}
 
 pub have_all : {A : Type 0} (xs : List (Option A)) → AllHave xs → Has (all_of xs)
 have_all [] h = tt
@@ -38,11 +40,12 @@ have_all (a ∷ rest) h = has_then a _ h.0 (λ x e. has_then (all_of rest) _ (ha
 -- ---- parameters that are objects
 
 takes_is_role : (around : Around) (has_input : Bool) (role : Role) → takes_role around has_input role ≡ true → role ≡ no_role → ⊥
-takes_is_role (in_entry lanes) has_input (an_input many s) e q = cc
+takes_is_role (in_entry lanes) has_input (an_input many s shared) e q = cc
 takes_is_role (in_entry lanes) has_input (an_output array) e q = cc
 takes_is_role (in_entry lanes) has_input no_role e q = cc
 takes_is_role in_plain has_input role e q = cc
-takes_is_role (in_const allowed) has_input role e q = cc
+takes_is_role in_const has_input role e q = cc
+takes_is_role (in_attribute allowed) has_input role e q = cc
 
 abbrev Held : HeldRecords → Type 0
 Held empty = Unit {0}
@@ -59,13 +62,13 @@ object_has c of empty k = tt
 object_has c of (records number) k = tt
 object_has c of unsure_records k = absurd k
 
-object_stands : (role : Role) (outputs : ℕ) (h : HeldRecords) → (role ≡ no_role → ⊥) → Held h → Stands (object_if (role_object role outputs h))
-object_stands (an_input many s) outputs empty n k = tt
-object_stands (an_input many s) outputs (records number) n k = tt
-object_stands (an_output array) outputs empty n k = tt
-object_stands (an_output array) outputs (records number) n k = tt
-object_stands no_role outputs h n k = absurd (n refl)
-object_stands role outputs unsure_records n k = absurd k
+object_stands : (structs : List TypedStruct) (role : Role) (outputs : ℕ) (h : HeldRecords) → (role ≡ no_role → ⊥) → Held h → Stands (object_if (role_object structs role outputs h))
+object_stands structs (an_input many s shared) outputs empty n k = tt
+object_stands structs (an_input many s shared) outputs (records number) n k = tt
+object_stands structs (an_output array) outputs empty n k = tt
+object_stands structs (an_output array) outputs (records number) n k = tt
+object_stands structs no_role outputs h n k = absurd (n refl)
+object_stands structs role outputs unsure_records n k = absurd k
 
 -- ---- parameters
 
@@ -91,11 +94,11 @@ parameter_known c b name (parameter_type.Object of) n h =
     let k = held of.record_type (record_number c of) (λ r. has_record c _ of n r (well_left h) object) in
     record {
       tree = has_through (takes_role c.around b.has_input (role_of of.word)) of (λ of. object_tree c of (holds c of)) takes (object_has c of (holds c of) k);
-      stands = chosen_stands (takes_role c.around b.has_input (role_of of.word)) _ takes (object_stands (role_of of.word) b.outputs (holds c of) (takes_is_role c.around b.has_input (role_of of.word) takes) k);
+      stands = chosen_stands (takes_role c.around b.has_input (role_of of.word)) _ takes (object_stands c.structs (role_of of.word) b.outputs (holds c of) (takes_is_role c.around b.has_input (role_of of.word) takes) k);
     }
 
 fine_parameter : (b : Before) (p : Parameter) (c : Context) → Stands (parameter_meant c b p.of) → Fine c → Fine (with_parameter b p c)
-fine_parameter b p c h f = record { names = stand_push c.names _ f.names h; values = f.values; gives = f.gives; handles = f.handles }
+fine_parameter b p c h f = fine_once p.name c _ f (record { names = stand_push c.names _ f.names h; values = f.values; gives = f.gives; handles = f.handles })
 
 has_parameters : (b : Before) (ps : List Parameter) (c : Context) → Fine c → Well (parameters_sites b ps c) → Declares (Has (parameters_trees b ps c)) (parameters_after b ps c)
 has_parameters b [] c f h = record { form = tt; fine = f }
@@ -120,6 +123,10 @@ type_passed c b name (parameter_type.Object of) d t e h q =
     never : false ≡ true → ⊥
     never e = cc
 
+around_once : (b : Bool) (c d : Context) → c.around ≡ in_plain → d.around ≡ in_plain → (cond b c d).around ≡ in_plain
+around_once true c d e f = e
+around_once false c d e f = f
+
 plain_passed : (b : Before) (ps : List Parameter) (c : Context) (ts : List TypedParameter) → c.around ≡ in_plain → Well (parameters_sites b ps c) → parameters_trees b ps c ≡ Some ts → Has (passed_of ts)
 plain_passed b [] c ts e h q = subst (λ ts. Has (passed_of ts)) (some_value q) tt
 plain_passed b (p ∷ rest) c ts e h q =
@@ -129,18 +136,20 @@ plain_passed b (p ∷ rest) c ts e h q =
     subst (λ ts. Has (passed_of ts)) (some_value others.2)
     (has_then (passed_if first.0.direction first.0.of) _
     (subst (λ (t : TypedParameter). Has (passed_if t.direction t.of)) (some_value typed.2) (type_passed c b p.name p.of p.direction typed.0 e (well_left (well_right h)) typed.1))
-    (λ x g. has_then (passed_of others.0) _ (plain_passed (one_more p.of b) rest (with_parameter b p c) others.0 e (well_right (well_right (well_right (well_right h)))) others.1) (λ y i. tt)))
+    (λ x g. has_then (passed_of others.0) _ (plain_passed (one_more p.of b) rest (with_parameter b p c) others.0 (around_once (is_among (own_names c) p.name.name) c _ e e) (well_right (well_right (well_right (well_right h)))) others.1) (λ y i. tt)))
 
 -- a function stands in no `const`
 abbrev NotConst : Around → Type 0
 NotConst (in_entry lanes) = Unit {0}
 NotConst in_plain = Unit {0}
-NotConst (in_const allowed) = ⊥
+NotConst in_const = ⊥
+NotConst (in_attribute allowed) = ⊥
 
 passed_has : (around : Around) (ts : List TypedParameter) → NotConst around → (around ≡ in_plain → Has (passed_of ts)) → Has (passed_in around ts)
 passed_has (in_entry lanes) ts n k = tt
 passed_has in_plain ts n k = k refl
-passed_has (in_const allowed) ts n k = absurd n
+passed_has in_const ts n k = absurd n
+passed_has (in_attribute allowed) ts n k = absurd n
 
 -- ---- functions
 
@@ -151,7 +160,8 @@ around_known false lanes = tt
 none_allowed : (around : Around) → NotConst around → NoneAllowed around
 none_allowed (in_entry lanes) n = tt
 none_allowed in_plain n = tt
-none_allowed (in_const allowed) n = absurd n
+none_allowed in_const n = absurd n
+none_allowed (in_attribute allowed) n = absurd n
 
 gives_sure : (x : Text) (result : ResultType) → AllStand x.names → Well (result_sites (outside x) result) → IsSure (gives (outside x) result)
 gives_sure x (result_type.Void place) n h = tt
@@ -166,12 +176,26 @@ result_has nothing s = tt
 result_has (a_value of) s = tt
 result_has unsure s = s
 
+named_stand : (x : Text) (name : Named) (parameters : List Parameter) → AllStand x.names → AllStand (named_context x name parameters).names
+named_stand x name parameters n = either (is_among (own_names (head_context x parameters)) name.name)
+  where
+    either : (b : Bool) → AllStand (cond b (head_context x parameters) (declare name meant.Itself (head_context x parameters))).names
+    either true = n
+    either false = stand_push x.names _ n tt
+
+named_handles : (x : Text) (name : Named) (parameters : List Parameter) → AllHave (named_context x name parameters).handles
+named_handles x name parameters = either (is_among (own_names (head_context x parameters)) name.name)
+  where
+    either : (b : Bool) → AllHave (cond b (head_context x parameters) (declare name meant.Itself (head_context x parameters))).handles
+    either true = tt
+    either false = tt
+
 parameter_fine : (x : Text) (attributes : List Attribute) (result : ResultType) (name : Named) (parameters : List Parameter) → AllStand x.names → Well (result_sites (outside x) result) → Fine (parameter_context x attributes result name parameters)
 parameter_fine x attributes result name parameters n h = record {
-  names = stand_push x.names _ n tt;
+  names = named_stand x name parameters n;
   values = none_allowed (around_of (head_context x parameters) attributes) (around_known _ _);
   gives = gives_sure x result n h;
-  handles = tt;
+  handles = named_handles x name parameters;
 }
 
 body_fine : (c : Context) (parameters : List Parameter) → Fine (parameters_after first_before parameters c) → Fine (body_context c parameters)

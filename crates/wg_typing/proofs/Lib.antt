@@ -4,6 +4,8 @@ pub mod Constants
 pub mod Declarations
 pub mod Exprs
 pub mod Facts
+pub mod Faults
+pub mod FirstFault
 pub mod Forms
 pub mod Functions
 pub mod Interlocks

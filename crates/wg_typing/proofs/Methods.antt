@@ -12,7 +12,7 @@ use Rattle.wg_typing.specs.Named.{at_name}
 use Rattle.wg_typing.specs.RulesMismatchExpr.{unfit_arguments}
 use Rattle.wg_typing.specs.RulesNotAssignable.{fixed_method}
 use Rattle.wg_typing.specs.RulesShared.{unfit, unfit_all}
-use Rattle.wg_typing.specs.TypingObjects.{Method, load, store, interlocked, get, count, request, increment, is_valid, complete, methods, method_of, takes, method_value, element_value, has_elements}
+use Rattle.wg_typing.specs.TypingObjects.{Method, load, store, interlocked, get, count, request, increment, is_valid, complete, methods, method_of, takes, method_value, element_value, has_elements, finished}
 use Rattle.wg_typed.specs.declared.types.TypeTree.{TypeTree}
 use Rattle.wg_typed.specs.declared.typed.TypedBufferType.TheVariants as buffer_type
 use Rattle.wg_typed.specs.declared.typed_expr.TypedExpr.{TypedExpr}
@@ -22,6 +22,7 @@ use Rattle.wg_typing.specs.declared.scope.Value.{Value}
 use Rattle.wg_typing.proofs.Facts.{Empty, Has, and_left, and_right, empty_left, empty_right, some_value}
 use Rattle.wg_typing.proofs.Interlocks.{has_raw}
 use Rattle.wg_typing.proofs.Parts.{AllTyped, IsTyped, has_fit, said}
+use Rattle.wg_typing.specs.declared.scope.Sharing.TheVariants as sharing
 
 -- ---- the methods that an object has
 
@@ -29,8 +30,9 @@ abbrev holds_for : Object → Method → Bool
 holds_for (object.Buffer buffer (buffer_type.Raw writable)) (load n) = true
 holds_for (object.Buffer buffer (buffer_type.Raw writable)) (store n) = true
 holds_for (object.Buffer buffer (buffer_type.Raw writable)) (interlocked f) = true
-holds_for (object.Input many (Some number) standing) get = true
-holds_for (object.Input many record_type standing) count = true
+holds_for (object.Input many (Some number) standing sharing) get = true
+holds_for (object.Input many record_type standing sharing) count = true
+holds_for (object.Input many record_type standing sharing) finished = true
 holds_for (object.Output output array (Some number) element) (request group) = true
 holds_for (object.Output output array None element) (increment group) = true
 holds_for (object.Output output array record_type element) is_valid = true
@@ -54,9 +56,13 @@ all_hold : (o : Object) → every (holds_for o) (methods o) ≡ true
 all_hold (object.Buffer buffer (buffer_type.Raw true)) = refl
 all_hold (object.Buffer buffer (buffer_type.Raw false)) = refl
 all_hold (object.Buffer buffer (buffer_type.Structured writable of)) = refl
-all_hold (object.Input true (Some number) standing) = refl
-all_hold (object.Input false (Some number) standing) = refl
-all_hold (object.Input many None standing) = refl
+all_hold (object.Input true (Some number) standing sharing.Copied) = refl
+all_hold (object.Input true (Some number) standing sharing.Shared) = refl
+all_hold (object.Input true (Some number) standing sharing.Tracked) = refl
+all_hold (object.Input false (Some number) standing sharing.Copied) = refl
+all_hold (object.Input false (Some number) standing sharing.Shared) = refl
+all_hold (object.Input false (Some number) standing sharing.Tracked) = refl
+all_hold (object.Input many None standing sharing) = refl
 all_hold (object.Output output true (Some number) (Some element)) = refl
 all_hold (object.Output output true None (Some element)) = refl
 all_hold (object.Output output true record_type None) = refl
@@ -111,12 +117,15 @@ has_held place name (object.Buffer buffer (buffer_type.Raw writable)) (store n) 
 has_held place name (object.Buffer buffer (buffer_type.Raw writable)) (store n) (p ∷ q ∷ []) k t h e f = has_two uint_type (uints n) p q _ h.0 h.1.0 e (λ x y. tt)
 has_held place name (object.Buffer buffer (buffer_type.Raw writable)) (store n) (p ∷ q ∷ r ∷ rest) k t h e f = absurd (three_for_two (length rest) t)
 has_held place name (object.Buffer buffer (buffer_type.Raw writable)) (interlocked g) parts k t h e f = has_raw name g buffer parts h t e (said parts _ h f)
-has_held place name (object.Input many (Some number) standing) get [] k t h e f = tt
-has_held place name (object.Input many (Some number) standing) get (p ∷ []) k t h e f = has_one uint_type p _ h.0 e (λ x. tt)
-has_held place name (object.Input many (Some number) standing) get (p ∷ q ∷ rest) k t h e f = absurd (too_many (length rest) (cond many 1 0) (at_most_one many) t)
-has_held place name (object.Input many (Some number) standing) count [] k t h e f = tt
-has_held place name (object.Input many None standing) count [] k t h e f = tt
-has_held place name (object.Input many record_type standing) count (p ∷ rest) k t h e f = absurd (some_for_none (length rest) t)
+has_held place name (object.Input many (Some number) standing sharing) get [] k t h e f = tt
+has_held place name (object.Input many (Some number) standing sharing) get (p ∷ []) k t h e f = has_one uint_type p _ h.0 e (λ x. tt)
+has_held place name (object.Input many (Some number) standing sharing) get (p ∷ q ∷ rest) k t h e f = absurd (too_many (length rest) (cond many 1 0) (at_most_one many) t)
+has_held place name (object.Input many (Some number) standing sharing) count [] k t h e f = tt
+has_held place name (object.Input many None standing sharing) count [] k t h e f = tt
+has_held place name (object.Input many record_type standing sharing) count (p ∷ rest) k t h e f = absurd (some_for_none (length rest) t)
+has_held place name (object.Input many (Some number) standing sharing) finished [] k t h e f = tt
+has_held place name (object.Input many None standing sharing) finished [] k t h e f = tt
+has_held place name (object.Input many record_type standing sharing) finished (p ∷ rest) k t h e f = absurd (some_for_none (length rest) t)
 has_held place name (object.Output output array (Some number) element) (request group) [] k t h e f = absurd (cc)
 has_held place name (object.Output output array (Some number) element) (request group) (p ∷ []) k t h e f = has_one uint_type p _ h.0 e (λ x. tt)
 has_held place name (object.Output output array (Some number) element) (request group) (p ∷ q ∷ rest) k t h e f = absurd (too_many (length rest) 1 (omega arith) t)
@@ -139,10 +148,10 @@ has_method place name o m parts word q = has_held place name o m parts (method_i
 pub has_element : (place : Place) (o : Object) (i : TypedExpr) → has_elements o ≡ true → Has (element_value place o i)
 has_element place (object.Buffer buffer (buffer_type.Raw writable)) i e = absurd (cc)
 has_element place (object.Buffer buffer (buffer_type.Structured writable of)) i e = tt
-has_element place (object.Input true (Some number) standing) i e = tt
-has_element place (object.Input false (Some number) standing) i e = absurd (cc)
-has_element place (object.Input true None standing) i e = absurd (cc)
-has_element place (object.Input false None standing) i e = absurd (cc)
+has_element place (object.Input true (Some number) standing sharing) i e = tt
+has_element place (object.Input false (Some number) standing sharing) i e = absurd (cc)
+has_element place (object.Input true None standing sharing) i e = absurd (cc)
+has_element place (object.Input false None standing sharing) i e = absurd (cc)
 has_element place (object.Output output true record_type None) i e = tt
 has_element place (object.Output output true record_type (Some element)) i e = absurd (cc)
 has_element place (object.Output output false record_type None) i e = absurd (cc)

@@ -8,7 +8,7 @@ use Rattle.wg_typing.specs.Conversions.{is_number}
 use Rattle.wg_typing.specs.Maybe.{and_then, where_true}
 use Rattle.wg_typing.specs.RulesMismatchExpr.{unfit_name}
 use Rattle.wg_typing.specs.RulesUnknownName.{is_no_value, unknown_value, is_no_struct, unknown_type}
-use Rattle.wg_typing.specs.Scope.{Context, Around, in_entry, in_plain, in_const, look, struct_if, named_type}
+use Rattle.wg_typing.specs.Scope.{Context, Around, in_entry, in_plain, in_const, in_attribute, look, struct_if, named_type}
 use Rattle.wg_typing.specs.Sites.{at_if}
 use Rattle.wg_typing.specs.TypingCallee.{CalledName, plain, entry, itself, builtin, broken, unknown, Builtin, builtin_if, callee_of, callee}
 use Rattle.wg_typing.specs.TypingName.{name_value, const_name, named_value}
@@ -60,12 +60,12 @@ pub stand_push : (names : List Declared) (d : Declared) → AllStand names → S
 stand_push [] d h k = (k, tt)
 stand_push (x ∷ names) d h k = (h.0, stand_push names d h.1 k)
 
--- in a `const` no name may stand without a value
+-- no name may stand without a value
 abbrev pub NoneAllowed : Around → Type 0
 NoneAllowed (in_entry lanes) = Unit {0}
 NoneAllowed in_plain = Unit {0}
-NoneAllowed (in_const []) = Unit {0}
-NoneAllowed (in_const (x ∷ rest)) = ⊥
+NoneAllowed in_const = Unit {0}
+NoneAllowed (in_attribute allowed) = ⊥
 
 -- ---- values
 
@@ -81,7 +81,7 @@ has_value place (Some (meant.Function number is_entry result parameters chain)) 
 has_value place (Some meant.Itself) s h = absurd h
 has_value place (Some meant.Broken) s h = absurd s
 
-has_constant : (name : Named) (m : Option Meant) → StandsIf m → Empty (at_if (unknown_value (in_const []) name.name m) name.place) → Empty (unfit_name (in_const []) name m) → Has (const_name name.place m)
+has_constant : (name : Named) (m : Option Meant) → StandsIf m → Empty (at_if (unknown_value in_const name.name m) name.place) → Empty (unfit_name in_const name m) → Has (const_name name.place m)
 has_constant name None s h k = absurd h
 has_constant name (Some (meant.Struct number)) s h k = absurd h
 has_constant name (Some (meant.Constant of words None)) s h k = absurd k
@@ -97,8 +97,8 @@ has_constant name (Some meant.Broken) s h k = absurd s
 pub has_named : (around : Around) (name : Named) (m : Option Meant) → NoneAllowed around → StandsIf m → Empty (at_if (unknown_value around name.name m) name.place) → Empty (unfit_name around name m) → Has (named_value around name m)
 has_named (in_entry lanes) name m a s h k = has_value name.place m s h
 has_named in_plain name m a s h k = has_value name.place m s h
-has_named (in_const []) name m a s h k = has_constant name m s h k
-has_named (in_const (x ∷ rest)) name m a s h k = absurd a
+has_named in_const name m a s h k = has_constant name m s h k
+has_named (in_attribute allowed) name m a s h k = absurd a
 
 -- ---- types
 

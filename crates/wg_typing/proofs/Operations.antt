@@ -8,22 +8,25 @@ use Rattle.wg_typing.specs.Maybe.{and_then, where_true}
 use Rattle.wg_typing.specs.RulesMismatchExpr.{clash, clash_on, clash_if, unfit_link, choice_of, unfit_results, unfit_choice}
 use Rattle.wg_typing.specs.RulesShared.{links_parts, failing, unfit}
 use Rattle.wg_typing.specs.Sites.{at_if}
-use Rattle.wg_typing.specs.TypingOperators.{prefix_type, prefix_value, cast_value, choice_value, suited, run_on, run_type, chain_links, chain_type, chain_value, over_links, typed_of}
+use Rattle.wg_typing.specs.Typing.{Mismatch}
+use Rattle.wg_typing.specs.TypingExpr.{links_at}
+use Rattle.wg_typing.proofs.Sites.{Well, well_left, well_right, well_only}
+use Rattle.wg_typing.specs.TypingOperators.{prefix_type, prefix_value, cast_value, choice_value, suited, run_on, run_type, chain_links, chain_type, chain_value, typed_of}
 use Rattle.wg_tree.specs.declared.expr.BinaryOperator.{BinaryOperator}
 use Rattle.wg_tree.specs.declared.expr.PrefixOperator.{PrefixOperator}
 use Rattle.wg_tree.specs.declared.expr.PrefixOperator.TheVariants as prefix
 use Rattle.wg_typed.specs.declared.types.TypeTree.{TypeTree}
-use Rattle.wg_typing.proofs.Facts.{Empty, Has, both, empty_left, empty_right, has_is_none, has_then, has_where, is_false, some_of, through_where}
+use Rattle.wg_typing.proofs.Facts.{Empty, Has, both, has_is_none, has_then, has_where, is_false, some_of, through_where}
 use Rattle.wg_typing.proofs.Parts.{AllTyped, IsTyped, has_convert, has_fit, passes_test}
 use Rattle.wg_typing.proofs.Types.{chosen_fits, fits_sized, has_numbers, operation_on_fits, size_same}
 
 -- ---- prefix operators and casts
 
-prefix_size : (operator : PrefixOperator) (n : Numbers) → size_fits n.size (prefix_type operator n).size ≡ true
-prefix_size prefix.Minus n = size_same n.size
-prefix_size prefix.Plus n = size_same n.size
-prefix_size prefix.Not n = size_same n.size
-prefix_size prefix.Complement n = size_same n.size
+prefix_size : (operator : PrefixOperator) (n : Numbers) → size_fits n (prefix_type operator n).size ≡ true
+prefix_size prefix.Minus n = size_same n
+prefix_size prefix.Plus n = size_same n
+prefix_size prefix.Not n = size_same n
+prefix_size prefix.Complement n = size_same n
 
 pub has_prefix : (place : Place) (operator : PrefixOperator) (p : Part) → IsTyped p → Empty (failing (λ t. is_number t.of) (typed_part p)) → Has (prefix_value place operator p)
 has_prefix place operator p h e = has_then (typed_part p) _ h (λ t q.
@@ -110,18 +113,18 @@ record Chained (of : Option TypeTree) (rest : List (LinkLayer Part)) : Type 0 wh
   pub links : Has (chain_links of rest)
   pub last : Has (chain_type of rest)
 
-chained : (whole : Place) (of : TypeTree) (rest : List (LinkLayer Part)) → AllTyped (links_parts rest) → Empty (over_links (unfit_link whole) (Some of) rest) → Chained (Some of) rest
+chained : (whole : Place) (of : TypeTree) (rest : List (LinkLayer Part)) → AllTyped (links_parts rest) → Well (links_at whole (Some of) rest) → Chained (Some of) rest
 chained whole of [] h e = record { links = tt; last = tt }
 chained whole of (l ∷ rest) h e =
-    let r = runs whole of l h.0 (empty_left (unfit_link whole of l) _ e) in
+    let r = runs whole of l h.0 ((well_only (well_left e)).clear Mismatch) in
     let next = some_of (run_type of l) r.after in
-    let c = chained whole next.0 rest h.1 (subst (λ x. Empty (over_links (unfit_link whole) x rest)) next.1 (empty_right (unfit_link whole of l) _ e)) in
+    let c = chained whole next.0 rest h.1 (subst (λ x. Well (links_at whole x rest)) next.1 (well_right e)) in
     record {
       links = has_then (run_on of l) _ r.link (λ a q. has_then (chain_links (run_type of l) rest) _ (subst (λ x. Has (chain_links x rest)) (sym next.1) c.links) (λ b s. tt));
       last = subst (λ x. Has (chain_type x rest)) (sym next.1) c.last;
     }
 
-pub has_chain : (place : Place) (first : Part) (rest : List (LinkLayer Part)) → IsTyped first → AllTyped (links_parts rest) → Empty (over_links (unfit_link place) (typed_of first) rest) → Has (chain_value place first rest)
+pub has_chain : (place : Place) (first : Part) (rest : List (LinkLayer Part)) → IsTyped first → AllTyped (links_parts rest) → Well (links_at place (typed_of first) rest) → Has (chain_value place first rest)
 has_chain place first rest h k e = has_then (typed_part first) _ h (λ t q.
-    let c = chained place t.of rest k (subst (λ x. Empty (over_links (unfit_link place) (and_then x (λ t. Some t.of)) rest)) q e) in
+    let c = chained place t.of rest k (subst (λ x. Well (links_at place (and_then x (λ t. Some t.of)) rest)) q e) in
     has_then (chain_links (Some t.of) rest) _ c.links (λ a r. has_then (chain_type (Some t.of) rest) _ c.last (λ b s. tt)))

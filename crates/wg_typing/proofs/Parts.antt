@@ -2,14 +2,14 @@
 use Rattle.std.proofs.Common.{◌≡◌, Bool, true, false, not, List, [], ◌∷◌, ◌++◌, length, Option, Some, None, refl, subst, arith}
 use Rattle.wg_words.specs.declared.place.Place.{Place}
 use Rattle.wg_typing.specs.Conversions.{fits}
-use Rattle.wg_typing.specs.Layers.{Part, TypedPart, typed_at, typed_part, all_typed_parts, convert, fit, fit_all}
-use Rattle.wg_typing.specs.RulesShared.{is_typed, all_are_typed, where_typed, no_value_at, no_value, act_at, each_part, failing, unfit, unfit_all}
-use Rattle.wg_typing.specs.TypingActs.{is_output_act, is_syncing}
+use Rattle.wg_typing.specs.Layers.{Part, TypedPart, typed_at, typed_part, all_typed_parts, convert, fit, fit_all, call_of}
+use Rattle.wg_typing.specs.RulesShared.{is_typed, all_are_typed, where_typed, no_value_at, no_value, each_part, failing, unfit, unfit_all}
 use Rattle.wg_typed.specs.declared.types.TypeTree.{TypeTree}
 use Rattle.wg_typing.specs.declared.scope.Act.TheVariants as act
 use Rattle.wg_typing.specs.declared.scope.Value.{Value}
 use Rattle.wg_typing.specs.declared.scope.Value.TheVariants as value
 use Rattle.wg_typing.proofs.Facts.{Empty, Has, both, empty_if, empty_left, empty_right, has_then, has_where, is_false, is_some_has, not_false}
+use Rattle.wg_typing.specs.TypingActs.{called_at, is_output, is_sync, call_in, NamedCall}
 
 -- ---- parts that have values
 
@@ -34,26 +34,27 @@ AllTyped [] = Unit {0}
 AllTyped (p ∷ rest) = IsTyped p × AllTyped rest
 
 -- a value that is no output call and no syncing barrier, and breaks no rule where a value is wanted
-value_typed : (p : Place) (v : Option Value) → Has v → Empty (no_value_at p v) → Empty (act_at is_output_act v) → Empty (act_at is_syncing v) → Has (typed_at p v)
-value_typed p None h n o s = absurd h
-value_typed p (Some (value.Typed of standing tree)) h n o s = tt
-value_typed p (Some (value.Object object)) h n o s = absurd n
-value_typed p (Some (value.Text bytes)) h n o s = absurd n
-value_typed p (Some (value.Act name (act.Step step))) h n o s = absurd n
-value_typed p (Some (value.Act name (act.Barrier true))) h n o s = absurd s
-value_typed p (Some (value.Act name (act.Barrier false))) h n o s = absurd n
-value_typed p (Some (value.Act name (act.Request group output number element amount))) h n o s = absurd o
-value_typed p (Some (value.Act name (act.Increment group output element amount))) h n o s = absurd o
-value_typed p (Some (value.Act name (act.Complete handle))) h n o s = absurd o
+value_typed : (p : Place) (v : Option Value) (k : Option NamedCall) → Has v → Empty (no_value_at p v) → Empty (called_at is_output (call_in v k)) → Empty (called_at is_sync (call_in v k)) → Has (typed_at p v)
+value_typed p None k h n o s = absurd h
+value_typed p (Some (value.Typed of standing tree)) k h n o s = tt
+value_typed p (Some (value.Object object)) k h n o s = absurd n
+value_typed p (Some (value.Text bytes)) k h n o s = absurd n
+value_typed p (Some (value.Act name (act.Step step))) k h n o s = absurd n
+value_typed p (Some (value.Act name (act.Barrier true))) k h n o s = absurd s
+value_typed p (Some (value.Act name (act.Barrier false))) k h n o s = absurd n
+value_typed p (Some (value.Act name (act.Request group output number element amount))) k h n o s = absurd o
+value_typed p (Some (value.Act name (act.Increment group output element amount))) k h n o s = absurd o
+value_typed p (Some (value.Act name (act.Complete handle))) k h n o s = absurd o
+value_typed p (Some (value.Act name (act.Finished tracked))) k h n o s = absurd o
 
-pub part_typed : (p : Part) → Whole p → Empty (no_value p) → Empty (act_at is_output_act p.value) → Empty (act_at is_syncing p.value) → IsTyped p
-part_typed p = value_typed p.place p.value
+pub part_typed : (p : Part) → Whole p → Empty (no_value p) → Empty (called_at is_output (call_of p)) → Empty (called_at is_sync (call_of p)) → IsTyped p
+part_typed p = value_typed p.place p.value p.by_name
 
-pub all_typed : (parts : List Part) → AllWhole parts → Empty (each_part no_value parts) → Empty (each_part (λ p. act_at is_output_act p.value) parts) → Empty (each_part (λ p. act_at is_syncing p.value) parts) → AllTyped parts
+pub all_typed : (parts : List Part) → AllWhole parts → Empty (each_part no_value parts) → Empty (each_part (λ p. called_at is_output (call_of p)) parts) → Empty (each_part (λ p. called_at is_sync (call_of p)) parts) → AllTyped parts
 all_typed [] h n o s = tt
 all_typed (p ∷ rest) h n o s = (
-  part_typed p h.0 (empty_left (no_value p) _ n) (empty_left (act_at is_output_act p.value) _ o) (empty_left (act_at is_syncing p.value) _ s),
-  all_typed rest h.1 (empty_right (no_value p) _ n) (empty_right (act_at is_output_act p.value) _ o) (empty_right (act_at is_syncing p.value) _ s),
+  part_typed p h.0 (empty_left (no_value p) _ n) (empty_left (called_at is_output (call_of p)) _ o) (empty_left (called_at is_sync (call_of p)) _ s),
+  all_typed rest h.1 (empty_right (no_value p) _ n) (empty_right (called_at is_output (call_of p)) _ o) (empty_right (called_at is_sync (call_of p)) _ s),
 )
 
 are_typed : (parts : List Part) → AllTyped parts → all_are_typed parts ≡ true

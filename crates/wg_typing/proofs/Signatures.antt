@@ -1,23 +1,25 @@
 -- Intrinsics and constructors on parts that have types.
-use Rattle.std.proofs.Common.{◌≡◌, ℕ, suc, Bool, true, false, List, [], ◌∷◌, ◌++◌, length, map, Option, Some, refl, sym, ap, ◌∙◌, subst}
+use Rattle.std.proofs.Common.{◌≡◌, ℕ, suc, Bool, true, false, List, [], ◌∷◌, ◌++◌, length, map, Option, Some, refl, sym, ap, ◌∙◌, subst, None}
 use Rattle.std.specs.Prelude.{◌&&◌, ◌==◌}
 use Rattle.wg_words.specs.declared.place.Place.{Place}
-use Rattle.wg_typing.specs.Conversions.{Numbers, numbers, type_of, size_fits, fits, is_number, truths, of_value_type, chosen_scalar}
+use Rattle.wg_typing.specs.Conversions.{Numbers, numbers, type_of, size_fits, fits, is_number, truths, of_value_type, chosen_scalar, size_of}
 use Rattle.wg_typing.specs.Layers.{Part, TypedPart, typed_part, all_typed_parts, convert, fixed}
 use Rattle.wg_typing.specs.Maybe.{and_then, where_true}
 use Rattle.wg_typing.specs.RulesWrongArity.{other_count, miscounted_components}
 use Rattle.wg_typing.specs.RulesMismatchCall.{unfit_together, unfit_intrinsic}
 use Rattle.wg_typing.specs.RulesShared.{failing, each_failing}
 use Rattle.wg_typing.specs.Sites.{at_if}
-use Rattle.wg_typing.specs.TypingConstructor.{component_count, components, constructed}
-use Rattle.wg_typing.specs.TypingIntrinsic.{Reckons, in_common, in_uint, to_one_truth, in_truths, choosing, reckons, arity_of, argument_suits, all_suit, size_of_all, Signature, chosen_of_size, signature, signature_on, all_numbers, convert_all, intrinsic_value}
+use Rattle.wg_typing.specs.TypingConstructor.{component_count, components, constructed, makes, all_make}
+use Rattle.wg_typing.specs.TypingIntrinsic.{Reckons, in_common, in_uint, to_one_truth, in_truths, choosing, reckons, arity_of, argument_suits, all_suit, size_of_all, Signature, chosen_of_size, signature, signature_on, all_numbers, convert_all, intrinsic_value, all_fit_size, joined_size_of}
 use Rattle.wg_tree.specs.declared.expr.ValueType.{ValueType}
 use Rattle.wg_tree.specs.declared.expr.ValueType.TheVariants as value_type
 use Rattle.wg_typed.specs.declared.typed_expr.Intrinsic.{Intrinsic}
 use Rattle.wg_typed.specs.declared.typed_expr.TypedKind.TheVariants as tree
-use Rattle.wg_typing.proofs.Facts.{Empty, Has, both, empty_if, empty_left, empty_right, has_is_none, has_then, has_through, is_false, not_false, some_value, then_some, through_where}
+use Rattle.wg_typing.proofs.Facts.{Empty, Has, both, empty_if, empty_left, empty_right, has_is_none, has_then, has_through, is_false, not_false, some_value, then_some, through_where, and_left, and_right, where_same, where_passes}
 use Rattle.wg_typing.proofs.Parts.{AllTyped, has_all_parts, has_convert, passes_test}
-use Rattle.wg_typing.proofs.Types.{common_fits, fits_sized, has_numbers, size_same, size_through}
+use Rattle.wg_typing.proofs.Types.{fits_sized, has_numbers, size_same}
+use Rattle.wg_typed.specs.declared.types.TypeTree.{TypeTree}
+use Rattle.wg_typed.specs.declared.types.TypeTree.TheVariants as type
 
 -- ---- parts, their types and their numbers, in step
 
@@ -98,7 +100,7 @@ has_convert_all (m ∷ ms) (t ∷ ts) h =
     has_then (convert (type_of m) t) _ (has_convert (type_of m) t h.0) (λ a e. has_then (convert_all ms ts) _ (has_convert_all ms ts h.1) (λ b f. tt))
 
 -- each to its own, where no size changes or all sizes fit
-converts_each : (to : Numbers → Numbers) (ts : List TypedPart) (ns : List Numbers) → ((n : Numbers) → size_fits n.size (to n).size ≡ true) → Numbered ts ns → Converts (map to ns) ts
+converts_each : (to : Numbers → Numbers) (ts : List TypedPart) (ns : List Numbers) → ((n : Numbers) → size_fits n (to n).size ≡ true) → Numbered ts ns → Converts (map to ns) ts
 converts_each to [] [] k h = tt
 converts_each to [] (n ∷ ns) k h = absurd h
 converts_each to (t ∷ ts) [] k h = absurd h
@@ -106,18 +108,16 @@ converts_each to (t ∷ ts) (n ∷ ns) k h = (fits_sized t.of n (to n) h.0 (k n)
 
 abbrev AllSizes : List Numbers → Option ℕ → Type 0
 AllSizes [] size = Unit {0}
-AllSizes (n ∷ ns) size = (size_fits n.size size ≡ true) × AllSizes ns size
+AllSizes (n ∷ ns) size = (size_fits n size ≡ true) × AllSizes ns size
 
-sizes_through : (ns : List Numbers) (a b : Option ℕ) → AllSizes ns a → size_fits a b ≡ true → AllSizes ns b
-sizes_through [] a b h e = tt
-sizes_through (n ∷ ns) a b h e = (size_through n.size a b h.0 e, sizes_through ns a b h.1 e)
-
-all_sizes : (ns : List Numbers) (size : Option ℕ) → size_of_all ns ≡ Some size → AllSizes ns size
+all_sizes : (ns : List Numbers) (size : Option ℕ) → all_fit_size ns size ≡ true → AllSizes ns size
 all_sizes [] size e = tt
-all_sizes (n ∷ ns) size e =
+all_sizes (n ∷ ns) size e = (and_left (size_fits n size) _ e, all_sizes ns size (and_right (size_fits n size) _ e))
+
+joined_sizes : (ns : List Numbers) (size : Option ℕ) → joined_size_of ns ≡ Some size → AllSizes ns size
+joined_sizes ns size e =
     let r = then_some (size_of_all ns) _ size e in
-    let f = common_fits n.size r.0 size r.2 in
-    (f.0, sizes_through ns r.0 size (all_sizes ns r.0 r.1) f.1)
+    subst (AllSizes ns) (where_same (all_fit_size ns r.0) r.0 size r.2) (all_sizes ns r.0 (where_passes (all_fit_size ns r.0) r.0 size r.2))
 
 converts_alike : (m : Numbers) (ts : List TypedPart) (ns : List Numbers) → AllSizes ns m.size → Numbered ts ns → Converts (map (λ a. m) ns) ts
 converts_alike m [] [] k h = tt
@@ -144,18 +144,18 @@ converts_choosing size (x ∷ y ∷ z ∷ []) (a ∷ b ∷ c ∷ []) s k h e =
 -- the arguments of an intrinsic convert to what its signature wants
 signature_converts : (r : Reckons) (ts : List TypedPart) (ns : List Numbers) (s : Signature) → Numbered ts ns → signature r ns ≡ Some s → Converts s.arguments ts
 signature_converts in_common ts ns s h e =
-    let a = then_some (size_of_all ns) _ s e in
-    subst (λ (s : Signature). Converts s.arguments ts) (some_value a.2) (converts_alike _ ts ns (all_sizes ns a.0 a.1) h)
+    let a = then_some (joined_size_of ns) _ s e in
+    subst (λ (s : Signature). Converts s.arguments ts) (some_value a.2) (converts_alike _ ts ns (joined_sizes ns a.0 a.1) h)
 signature_converts in_uint ts ns s h e =
-    let a = then_some (size_of_all ns) _ s e in
-    subst (λ (s : Signature). Converts s.arguments ts) (some_value a.2) (converts_alike _ ts ns (all_sizes ns a.0 a.1) h)
-signature_converts to_one_truth ts ns s h e = subst (λ (s : Signature). Converts s.arguments ts) (some_value e) (converts_each (λ n. truths n.size) ts ns (λ n. size_same n.size) h)
+    let a = then_some (joined_size_of ns) _ s e in
+    subst (λ (s : Signature). Converts s.arguments ts) (some_value a.2) (converts_alike _ ts ns (joined_sizes ns a.0 a.1) h)
+signature_converts to_one_truth ts ns s h e = subst (λ (s : Signature). Converts s.arguments ts) (some_value e) (converts_each (λ n. truths n.size) ts ns size_same h)
 signature_converts in_truths ts ns s h e =
-    let a = then_some (size_of_all ns) _ s e in
-    subst (λ (s : Signature). Converts s.arguments ts) (some_value a.2) (converts_alike _ ts ns (all_sizes ns a.0 a.1) h)
+    let a = then_some (joined_size_of ns) _ s e in
+    subst (λ (s : Signature). Converts s.arguments ts) (some_value a.2) (converts_alike _ ts ns (joined_sizes ns a.0 a.1) h)
 signature_converts choosing ts ns s h e =
-    let a = then_some (size_of_all ns) _ s e in
-    converts_choosing a.0 ts ns s (all_sizes ns a.0 a.1) h a.2
+    let a = then_some (joined_size_of ns) _ s e in
+    converts_choosing a.0 ts ns s (joined_sizes ns a.0 a.1) h a.2
 
 -- ---- intrinsics
 
@@ -189,15 +189,38 @@ value_numbers : (of : ValueType) → Has (numbers (of_value_type of))
 value_numbers (value_type.Scalar of) = tt
 value_numbers (value_type.Vector of n) = tt
 
+value_size : (of : ValueType) (n : Numbers) → numbers (of_value_type of) ≡ Some n → n.size ≡ size_of of
+value_size (value_type.Scalar of) n e = ap (λ (m : Numbers). m.size) (some_value (sym e))
+value_size (value_type.Vector of k) n e = ap (λ (m : Numbers). m.size) (some_value (sym e))
+
+-- what makes a part of a constructor is a number
+makes_number : (size : Option ℕ) (t : TypeTree) → makes size t ≡ true → is_number t ≡ true
+makes_number size (type.Scalar of) e = refl
+makes_number size (type.Vector of n) e = refl
+makes_number None (type.Struct number) e = absurd (cc)
+makes_number (Some k) (type.Struct number) e = absurd (cc)
+makes_number None (type.Array of n) e = absurd (cc)
+makes_number (Some k) (type.Array of n) e = absurd (cc)
+
+shown_make : (size : Option ℕ) (parts : List Part) (ts : List TypedPart) → Shown parts ts → Empty (each_failing (λ t. makes size t.of) parts) → all_make size ts ≡ true
+shown_make size [] [] h e = refl
+shown_make size [] (t ∷ ts) h e = absurd h
+shown_make size (p ∷ parts) [] h e = absurd h
+shown_make size (p ∷ parts) (t ∷ ts) h e = both (makes size t.of) _
+    (passes_test (λ t. makes size t.of) (typed_part p) t h.0 (empty_left (failing (λ t. makes size t.of) (typed_part p)) _ e))
+    (shown_make size parts ts h.1 (empty_right (failing (λ t. makes size t.of) (typed_part p)) _ e))
+
 counted : (goal : Option Numbers) (n : Numbers) (o : Option (List TypedPart)) (ts : List TypedPart) (ns : List Numbers) (place : Place) → goal ≡ Some n → o ≡ Some ts → all_numbers ts ≡ Some ns → Empty (at_if (other_count goal (and_then o all_numbers)) place)
     → (component_count ns == components n.size) ≡ true
 counted goal n o ts ns place g e f h = not_false _ (is_false _ place (subst (λ x. Empty (at_if (other_count (Some n) x) place)) f (subst (λ x. Empty (at_if (other_count (Some n) (and_then x all_numbers)) place)) e (subst (λ x. Empty (at_if (other_count x (and_then o all_numbers)) place)) g h))))
 
-pub has_constructed : (place : Place) (of : ValueType) (parts : List Part) → AllTyped parts → Empty (each_failing (λ t. is_number t.of) parts) → Empty (miscounted_components place (numbers (of_value_type of)) parts) → Has (and_then (numbers (of_value_type of)) (λ goal. constructed place goal parts))
+pub has_constructed : (place : Place) (of : ValueType) (parts : List Part) → AllTyped parts → Empty (each_failing (λ t. makes (size_of of) t.of) parts) → Empty (miscounted_components place (numbers (of_value_type of)) parts)
+    → Has (and_then (numbers (of_value_type of)) (λ goal. constructed place goal parts))
 has_constructed place of parts h e m = has_then (numbers (of_value_type of)) _ (value_numbers of) (λ goal g. has_then (all_typed_parts parts) _ (has_all_parts parts h) (λ ts q.
-    has_then (all_numbers ts) _ (has_all_numbers ts (shown_numbers (λ t. is_number t.of) parts ts (λ t k. k) (shown parts ts q) e)) (λ ns p.
+    has_then (all_numbers ts) _ (has_all_numbers ts (shown_numbers (λ t. makes (size_of of) t.of) parts ts (λ t. makes_number (size_of of) t.of) (shown parts ts q) e)) (λ ns p.
     let right = counted (numbers (of_value_type of)) goal (all_typed_parts parts) ts ns place g q p m in
-    has_then (and_then (where_true (component_count ns == components goal.size) ns) (λ ns. convert_all (map (λ n. record { of = goal.of; size = n.size }) ns) ts)) _
-    (has_through (component_count ns == components goal.size) ns (λ ns. convert_all (map (λ n. record { of = goal.of; size = n.size }) ns) ts) right
-    (has_convert_all _ ts (converts_each (λ n. record { of = goal.of; size = n.size }) ts ns (λ n. size_same n.size) (numbered ts ns p))))
+    let made = subst (λ size. all_make size ts ≡ true) (sym (value_size of goal g)) (shown_make (size_of of) parts ts (shown parts ts q) e) in
+    has_then (and_then (where_true ((component_count ns == components goal.size) && all_make goal.size ts) ns) (λ ns. convert_all (map (λ n. record { of = goal.of; size = n.size }) ns) ts)) _
+    (has_through ((component_count ns == components goal.size) && all_make goal.size ts) ns (λ ns. convert_all (map (λ n. record { of = goal.of; size = n.size }) ns) ts) (both _ _ right made)
+    (has_convert_all _ ts (converts_each (λ n. record { of = goal.of; size = n.size }) ts ns size_same (numbered ts ns p))))
     (λ trees r. tt))))

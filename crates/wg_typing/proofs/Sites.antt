@@ -1,10 +1,11 @@
 -- Sites at which no rule is broken.
 use Rattle.std.proofs.Common.{inl, inr, refl}
 use Rattle.wg_words.specs.declared.place.Place.{Place}
-use Rattle.wg_typing.specs.Sites.{Sites, only, ◌&◌}
+use Rattle.wg_typing.specs.Sites.{Sites, only, ◌&◌, within}
 use Rattle.wg_typing.specs.Site.{Site}
 use Rattle.wg_typing.specs.Typing.{TypingRule, places, BrokenAt}
 use Rattle.wg_typing.proofs.Facts.{Empty, none_in}
+use Rattle.wg_typing.specs.Region.{Region}
 
 -- a site breaks no rule
 pub record Clear (s : Site) : Type 0 where
@@ -22,3 +23,6 @@ well_right h = record { well = λ rule p q. h.well rule p (record { site = q.sit
 
 pub well_only : {s : Site} → Well (only s) → Clear s
 well_only {s} h = record { clear = λ rule. none_in (places rule s) (λ p i. h.well rule p (record { site = s; stands = refl; breaks = i })) }
+
+pub well_within : {r : Region} {a : Sites Site} → Well (within r a) → Well a
+well_within h = record { well = λ rule p q. h.well rule p (record { site = q.site; stands = q.stands; breaks = q.breaks }) }

@@ -1,18 +1,15 @@
 -- Steps in which no rule is broken have typed forms, as statements and in the header of a `for`.
-use Rattle.std.proofs.Common.{◌≡◌, Bool, true, false, not, cond, List, [], ◌∷◌, ◌++◌, Option, Some, None, refl, sym, ap, ◌∙◌, subst}
-use Rattle.std.specs.Prelude.{◌&&◌}
+use Rattle.std.proofs.Common.{◌≡◌, Bool, true, false, not, List, [], ◌∷◌, ◌++◌, Option, Some, None, refl, sym, ap, ◌∙◌, subst}
 use Rattle.wg_words.specs.declared.place.Place.{Place}
 use Rattle.wg_typing.specs.Conversions.{type_of, fits, is_number, Operation}
 use Rattle.wg_typing.specs.Layers.{Part, TypedPart, typed_at, typed_part, convert, fit}
 use Rattle.wg_typing.specs.Maybe.{and_then, where_true}
-use Rattle.wg_typing.specs.RulesActs.{step_takes_collective}
 use Rattle.wg_typing.specs.RulesMismatch.{unfit_wanted, unfit_back, both_suit, unfit_typed_update, unfit_update, unfit_assigned, unfit_alone}
 use Rattle.wg_typing.specs.RulesMismatchExpr.{clash_on}
 use Rattle.wg_typing.specs.RulesNotAssignable.{fixed_target, fixed_part}
 use Rattle.wg_typing.specs.RulesBadOutputCall.{stands}
-use Rattle.wg_typing.specs.RulesShared.{no_value, act_at, output_used, sync_used, unfit, failing}
-use Rattle.wg_typing.specs.TypingActs.{is_output_act, is_syncing}
-use Rattle.wg_typing.specs.Scope.{Context, collective_here}
+use Rattle.wg_typing.specs.RulesShared.{no_value, output_used, sync_used, unfit, failing}
+use Rattle.wg_typing.specs.Scope.{Context}
 use Rattle.wg_typing.specs.Sites.{at_if}
 use Rattle.wg_typing.specs.Typing.{Mismatch, NotAssignable, BadBarrier, BadOutputCall}
 use Rattle.wg_typing.specs.TypingExpr.{part}
@@ -28,32 +25,34 @@ use Rattle.wg_typing.specs.declared.scope.Act.TheVariants as act
 use Rattle.wg_typing.specs.declared.scope.Value.{Value}
 use Rattle.wg_typing.specs.declared.scope.Value.TheVariants as value
 use Rattle.wg_typing.proofs.Exprs.{has_value}
-use Rattle.wg_typing.proofs.Facts.{Empty, Has, both, empty_if, empty_left, empty_right, first_only, has_then, has_where, is_false, not_false, then_some, where_same}
+use Rattle.wg_typing.proofs.Facts.{Empty, Has, both, empty_if, empty_left, empty_right, has_then, has_where, is_false, not_false, then_some, where_same}
 use Rattle.wg_typing.proofs.Layers.{Sound}
 use Rattle.wg_typing.proofs.Operations.{Together, has_suited, right_fits, suited_is, together}
 use Rattle.wg_typing.proofs.Parts.{Whole, has_convert, has_fit, part_typed, passes_test}
 use Rattle.wg_typing.proofs.Sites.{Well, well_left, well_only, well_right}
+use Rattle.wg_typing.specs.TypingActs.{NamedCall, call_in, called_at, is_sync, is_output}
 
 -- ---- targets
 
-target_has : (p : Place) (v : Option Value) → Has v → Empty (fixed_target p v) → Empty (act_at is_output_act v) → Empty (act_at is_syncing v) → Has (and_then (typed_at p v) (λ t. where_true (not (is_fixed t.standing)) t))
-target_has p None h f o s = absurd h
-target_has p (Some (value.Typed of standing tree)) h f o s = has_where (not (is_fixed standing)) _ (changes (is_fixed standing) p f)
+target_has : (p : Place) (v : Option Value) (k : Option NamedCall) → Has v → Empty (fixed_target p v) → Empty (called_at is_output (call_in v k)) → Empty (called_at is_sync (call_in v k)) → Has (and_then (typed_at p v) (λ t. where_true (not (is_fixed t.standing)) t))
+target_has p None k h f o s = absurd h
+target_has p (Some (value.Typed of standing tree)) k h f o s = has_where (not (is_fixed standing)) _ (changes (is_fixed standing) p f)
   where
     changes : (b : Bool) (p : Place) → Empty (at_if b p) → not b ≡ true
     changes true p h = absurd h
     changes false p h = refl
-target_has p (Some (value.Object object)) h f o s = absurd f
-target_has p (Some (value.Text bytes)) h f o s = absurd f
-target_has p (Some (value.Act name (act.Step x))) h f o s = absurd f
-target_has p (Some (value.Act name (act.Barrier true))) h f o s = absurd s
-target_has p (Some (value.Act name (act.Barrier false))) h f o s = absurd f
-target_has p (Some (value.Act name (act.Request group output number element amount))) h f o s = absurd o
-target_has p (Some (value.Act name (act.Increment group output element amount))) h f o s = absurd o
-target_has p (Some (value.Act name (act.Complete handle))) h f o s = absurd o
+target_has p (Some (value.Object object)) k h f o s = absurd f
+target_has p (Some (value.Text bytes)) k h f o s = absurd f
+target_has p (Some (value.Act name (act.Step x))) k h f o s = absurd f
+target_has p (Some (value.Act name (act.Barrier true))) k h f o s = absurd s
+target_has p (Some (value.Act name (act.Barrier false))) k h f o s = absurd f
+target_has p (Some (value.Act name (act.Request group output number element amount))) k h f o s = absurd o
+target_has p (Some (value.Act name (act.Increment group output element amount))) k h f o s = absurd o
+target_has p (Some (value.Act name (act.Complete handle))) k h f o s = absurd o
+target_has p (Some (value.Act name (act.Finished tracked))) k h f o s = absurd o
 
 has_target : (p : Part) → Whole p → Empty (fixed_part p) → Empty (output_used p) → Empty (sync_used p) → Has (assignable_target p)
-has_target p = target_has p.place p.value
+has_target p = target_has p.place p.value p.by_name
 
 target_typed : (p : Part) (t : TypedPart) → assignable_target p ≡ Some t → typed_part p ≡ Some t
 target_typed p t e =
@@ -137,36 +136,38 @@ steps_in_header (Some (an_act a)) h = absurd h
 
 -- ---- calls as statements
 
-evaluated_stmt : (c : Context) (p : Place) (v : Option Value) → Has v → Empty (unfit_alone p v) → Empty (act_at (λ a. not (stands c false a)) v) → Empty (cond (step_takes_collective c false) [] (act_at is_syncing v)) → Has (and_then (evaluated v) (step_stmt c))
-evaluated_stmt c p None h e o s = absurd h
-evaluated_stmt c p (Some (value.Typed of standing tree)) h e o s = tt
-evaluated_stmt c p (Some (value.Object object)) h e o s = absurd e
-evaluated_stmt c p (Some (value.Text bytes)) h e o s = absurd e
-evaluated_stmt c p (Some (value.Act name (act.Step x))) h e o s = tt
-evaluated_stmt c p (Some (value.Act name (act.Barrier true))) h e o s = has_where (collective_here c) _ (first_only (collective_here c) [] name s).0
-evaluated_stmt c p (Some (value.Act name (act.Barrier false))) h e o s = tt
-evaluated_stmt c p (Some (value.Act name (act.Request group output number element amount))) h e o s = absurd o
-evaluated_stmt c p (Some (value.Act name (act.Increment group output element amount))) h e o s = has_where (collective_here c) _ (not_false (collective_here c) (is_false _ name o))
-evaluated_stmt c p (Some (value.Act name (act.Complete handle))) h e o s = has_where (collective_here c && own_handle c handle) _ (not_false (collective_here c && own_handle c handle) (is_false _ name o))
+evaluated_stmt : (c : Context) (p : Place) (v : Option Value) (k : Option NamedCall) → Has v → Empty (unfit_alone p v) → Empty (called_at (λ k. not (stands c false k)) (call_in v k)) → Has (and_then (evaluated v) (step_stmt c))
+evaluated_stmt c p None k h e o = absurd h
+evaluated_stmt c p (Some (value.Typed of standing tree)) k h e o = tt
+evaluated_stmt c p (Some (value.Object object)) k h e o = absurd e
+evaluated_stmt c p (Some (value.Text bytes)) k h e o = absurd e
+evaluated_stmt c p (Some (value.Act name (act.Step x))) k h e o = tt
+evaluated_stmt c p (Some (value.Act name (act.Barrier true))) k h e o = tt
+evaluated_stmt c p (Some (value.Act name (act.Barrier false))) k h e o = tt
+evaluated_stmt c p (Some (value.Act name (act.Request group output number element amount))) k h e o = absurd o
+evaluated_stmt c p (Some (value.Act name (act.Increment group output element amount))) k h e o = tt
+evaluated_stmt c p (Some (value.Act name (act.Complete handle))) k h e o = has_where (own_handle c handle) _ (not_false (own_handle c handle) (is_false _ name o))
+evaluated_stmt c p (Some (value.Act name (act.Finished tracked))) k h e o = absurd o
 
-evaluated_in_header : (c : Context) (p : Place) (v : Option Value) → Has v → Empty (unfit_alone p v) → Empty (act_at (λ a. not (stands c true a)) v) → Empty (act_at is_syncing v) → Has (and_then (evaluated v) did_in_header)
-evaluated_in_header c p None h e o s = absurd h
-evaluated_in_header c p (Some (value.Typed of standing tree)) h e o s = tt
-evaluated_in_header c p (Some (value.Object object)) h e o s = absurd e
-evaluated_in_header c p (Some (value.Text bytes)) h e o s = absurd e
-evaluated_in_header c p (Some (value.Act name (act.Step x))) h e o s = tt
-evaluated_in_header c p (Some (value.Act name (act.Barrier true))) h e o s = absurd s
-evaluated_in_header c p (Some (value.Act name (act.Barrier false))) h e o s = tt
-evaluated_in_header c p (Some (value.Act name (act.Request group output number element amount))) h e o s = absurd o
-evaluated_in_header c p (Some (value.Act name (act.Increment group output element amount))) h e o s = absurd o
-evaluated_in_header c p (Some (value.Act name (act.Complete handle))) h e o s = absurd o
+evaluated_in_header : (c : Context) (p : Place) (v : Option Value) (k : Option NamedCall) → Has v → Empty (unfit_alone p v) → Empty (called_at (λ k. not (stands c true k)) (call_in v k)) → Empty (called_at is_sync (call_in v k)) → Has (and_then (evaluated v) did_in_header)
+evaluated_in_header c p None k h e o s = absurd h
+evaluated_in_header c p (Some (value.Typed of standing tree)) k h e o s = tt
+evaluated_in_header c p (Some (value.Object object)) k h e o s = absurd e
+evaluated_in_header c p (Some (value.Text bytes)) k h e o s = absurd e
+evaluated_in_header c p (Some (value.Act name (act.Step x))) k h e o s = tt
+evaluated_in_header c p (Some (value.Act name (act.Barrier true))) k h e o s = absurd s
+evaluated_in_header c p (Some (value.Act name (act.Barrier false))) k h e o s = tt
+evaluated_in_header c p (Some (value.Act name (act.Request group output number element amount))) k h e o s = absurd o
+evaluated_in_header c p (Some (value.Act name (act.Increment group output element amount))) k h e o s = absurd o
+evaluated_in_header c p (Some (value.Act name (act.Complete handle))) k h e o s = absurd o
+evaluated_in_header c p (Some (value.Act name (act.Finished tracked))) k h e o s = absurd o
 
 -- ---- steps
 
 pub has_step : (c : Context) (s : Step) → Sound c → Well (step_sites c false s) → Has (and_then (step_did c s) (step_stmt c))
 has_step c (step.Evaluate e) n h =
     let here = well_only (well_right h) in
-    evaluated_stmt c (part c e).place (part c e).value (has_value c n e (well_left h)) (here.clear Mismatch) (here.clear BadOutputCall) (here.clear BadBarrier)
+    evaluated_stmt c (part c e).place (part c e).value (part c e).by_name (has_value c n e (well_left h)) (here.clear Mismatch) (here.clear BadOutputCall)
 has_step c (step.Assign target operator place v) n h = steps_stmt c _ (other_steps c false (step.Assign target operator place v) n h tt)
 has_step c (step.Before place operator target) n h = steps_stmt c _ (other_steps c false (step.Before place operator target) n h tt)
 has_step c (step.After target operator place) n h = steps_stmt c _ (other_steps c false (step.After target operator place) n h tt)
@@ -174,7 +175,7 @@ has_step c (step.After target operator place) n h = steps_stmt c _ (other_steps 
 step_in_header : (c : Context) (s : Step) → Sound c → Well (step_sites c true s) → Has (and_then (step_did c s) did_in_header)
 step_in_header c (step.Evaluate e) n h =
     let here = well_only (well_right h) in
-    evaluated_in_header c (part c e).place (part c e).value (has_value c n e (well_left h)) (here.clear Mismatch) (here.clear BadOutputCall) (here.clear BadBarrier)
+    evaluated_in_header c (part c e).place (part c e).value (part c e).by_name (has_value c n e (well_left h)) (here.clear Mismatch) (here.clear BadOutputCall) (here.clear BadBarrier)
 step_in_header c (step.Assign target operator place v) n h = steps_in_header _ (other_steps c true (step.Assign target operator place v) n h tt)
 step_in_header c (step.Before place operator target) n h = steps_in_header _ (other_steps c true (step.Before place operator target) n h tt)
 step_in_header c (step.After target operator place) n h = steps_in_header _ (other_steps c true (step.After target operator place) n h tt)

@@ -26,7 +26,7 @@ use Rattle.wg_typing.proofs.Declarations.{Declares, Fine, IsSure, has_declaratio
 use Rattle.wg_typing.proofs.Exprs.{has_value}
 use Rattle.wg_typing.proofs.Facts.{Empty, Has, empty_left, empty_right, has_then, has_where, holds_nowhere, is_false, is_some_has, not_false}
 use Rattle.wg_typing.proofs.Parts.{IsTyped, Whole, has_fit, part_typed}
-use Rattle.wg_typing.proofs.Sites.{Well, well_left, well_only, well_right}
+use Rattle.wg_typing.proofs.Sites.{Well, well_left, well_only, well_right, well_within}
 use Rattle.wg_typing.proofs.Steps.{has_header, has_step}
 use Rattle.wg_typing.proofs.Wanted.{wanted_fits}
 
@@ -133,7 +133,7 @@ GoodLayer (Stmt-F.For attributes place h body) = GoodWalk body
 
 layer_done : (layer : Stmt-F Walk) → GoodLayer layer → GoodWalk (stmt_walked layer)
 layer_done (Stmt-F.Block place body) g c f h =
-    let r = has_block body (enter c) g (fine_enter c f) h in
+    let r = has_block body (enter c) g (fine_enter c f) (well_within h) in
     record { tree = has_then (block_trees body (enter c)) _ r.form (λ a q. tt); fine = fine_leave c (block_after body (enter c)) f r.fine }
 layer_done (Stmt-F.Empty place) g c f h = record { tree = tt; fine = f }
 layer_done (Stmt-F.Declare d) g c f h =
@@ -147,7 +147,7 @@ layer_done (Stmt-F.Break place) g c f h = record { tree = has_where c.looped _ (
 layer_done (Stmt-F.Continue place) g c f h = record { tree = has_where c.looped _ (jumped c place h); fine = f }
 layer_done (Stmt-F.Return place e) g c f h = record { tree = returned c place e f h; fine = f }
 layer_done (Stmt-F.If attributes place test first other) g c f h =
-    let rest = well_right (well_right h) in
+    let rest = well_within (well_right (well_right h)) in
     let a = g.0 (enter c) (fine_enter c f) (well_left rest) in
     let after = fine_leave c (first (enter c)).after f a.fine in
     let b = has_else other (branch_after first c) g.1 after (well_right rest) in
@@ -157,16 +157,16 @@ layer_done (Stmt-F.If attributes place test first other) g c f h =
       fine = b.fine;
     }
 layer_done (Stmt-F.While attributes place test body) g c f h =
-    let a = g (enter_loop c) (fine_loop c f) (well_right (well_right h)) in
+    let a = g (enter_loop c) (fine_loop c f) (well_within (well_right (well_right h))) in
     record {
       tree = has_then (fit_in c truth_type test) _ (wanted_fits c truth_type test (sound c f) (well_left (well_right h))) (λ x q. has_then (body (enter_loop c)).tree _ a.tree (λ y r. tt));
       fine = fine_leave c (body (enter_loop c)).after f a.fine;
     }
 layer_done (Stmt-F.For attributes place h body) g c f k =
     let parts = well_right k in
-    let begin = has_start h.start (enter c) (fine_enter c f) (well_left parts) in
+    let begin = has_start h.start (enter c) (fine_enter c f) (well_within (well_left parts)) in
     let later = well_right (well_right parts) in
-    let inner = g (enter_loop (in_header h c)) (fine_loop (in_header h c) begin.fine) (well_right later) in
+    let inner = g (enter_loop (in_header h c)) (fine_loop (in_header h c) begin.fine) (well_within (well_right later)) in
     record {
       tree = has_then (if_there (start_tree (enter c)) h.start) _ begin.form (λ x q.
           has_then (if_there (fit_in (in_header h c) truth_type) h.test) _ (has_test h.test (in_header h c) begin.fine (well_left (well_right parts))) (λ y r.

@@ -1,5 +1,5 @@
 -- A text in which no rule is broken has its typed form.
-use Rattle.std.proofs.Common.{◌≡◌, ℕ, Bool, true, false, List, [], ◌∷◌, length, map, Option, Some, None, refl, sym, subst}
+use Rattle.std.proofs.Common.{◌≡◌, ℕ, Bool, true, false, List, [], ◌∷◌, length, map, Option, Some, None, refl, sym, subst, cond}
 use Rattle.std.specs.Prelude.{nat_le}
 use Rattle.wg_typed.specs.Constants.{const_value}
 use Rattle.wg_typing.specs.Conversions.{fits, is_number}
@@ -12,9 +12,9 @@ use Rattle.wg_typing.specs.TypingConstant.{constant_of, constant_type, constant_
 use Rattle.wg_typing.specs.TypingDeclared.{type_limit, declared_type, wanted_sites}
 use Rattle.wg_typing.specs.TypingExpr.{part}
 use Rattle.wg_typing.specs.TypingShared.{shared_type, shared_meant}
-use Rattle.wg_typing.specs.TypingSoFar.{Text, outside}
+use Rattle.wg_typing.specs.TypingSoFar.{Text, outside, text_names}
 use Rattle.wg_typing.specs.TypingStruct.{field_tree, fields_sites, struct_of_fields, struct_size, struct_tree, struct_limit, with_struct}
-use Rattle.wg_typing.specs.TypingText.{item_sites, item_after, no_text, items_sites, items_after, text_tree}
+use Rattle.wg_typing.specs.TypingText.{item_sites, item_after, no_text, items_sites, items_after, text_tree, item_declared, item_name}
 use Rattle.wg_tree.specs.declared.expr.Expr.{Expr}
 use Rattle.wg_tree.specs.declared.expr.Named.{Named}
 use Rattle.wg_tree.specs.declared.expr.TypeName.{TypeName}
@@ -38,6 +38,7 @@ use Rattle.wg_typing.proofs.Functions.{has_function, have_all}
 use Rattle.wg_typing.proofs.Names.{AllStand, Stands, StandsIf, stand_push, then_stands, unwrap_stands}
 use Rattle.wg_typing.proofs.Sites.{Well, well_left, well_only, well_right}
 use Rattle.wg_typing.proofs.Wanted.{elemental, has_const, has_declared, named_clear, sound_const, wanted_fits, within}
+use Rattle.wg_typing.specs.Named.{is_among}
 
 -- a text whose names stand, and in which each declaration has its typed form
 pub record Formed (x : Text) : Type 0 where
@@ -103,27 +104,27 @@ fit_fits goal p h =
     let t = then_some (typed_part p) _ a.0 a.1 in
     (t.0, t.1, where_holds (fits t.0.of goal) _ (subst Has (sym t.2) tt))
 
-number_goal : (c : Context) (goal : TypeTree) (e : Expr) → AllStand c.names → Has (fit goal (part (as_const [] c) e)) → Has (const_value (known_names c.names) e) → is_number goal ≡ true
+number_goal : (c : Context) (goal : TypeTree) (e : Expr) → AllStand c.names → Has (fit goal (part (as_const c) e)) → Has (const_value (known_names c.names) e) → is_number goal ≡ true
 number_goal c goal e n h v =
-    let t = fit_fits goal (part (as_const [] c) e) h in
-    fits_number t.0.of goal (typed_number (part (as_const [] c) e).place (part (as_const [] c) e).value t.0 t.1 (const_number c n e v)) t.2
+    let t = fit_fits goal (part (as_const c) e) h in
+    fits_number t.0.of goal (typed_number (part (as_const c) e).place (part (as_const c) e).value t.0 t.1 (const_number c n e v)) t.2
 
 constant_known : (c : Context) (of : TypeName) (e : Expr) → AllStand c.names → Well (constant_sites c of e) → Stands (constant_meant c of e)
 constant_known c of e n h = unwrap_stands (constant_type c of e)
     (has_then (named_type c.names of) _ (named_clear c of n (well_only (well_left h))) (λ goal q.
     let value = has_const c (named_type c.names of) e n (well_right h) in
-    let fitting = wanted_fits (as_const [] c) goal e (sound_const c n) (subst (λ x. Well (wanted_sites (as_const [] c) x e)) q (well_left (well_right h))) in
-    has_then (fit goal (part (as_const [] c) e)) _ fitting (λ t r.
+    let fitting = wanted_fits (as_const c) goal e (sound_const c n) (subst (λ x. Well (wanted_sites (as_const c) x e)) q (well_left (well_right h))) in
+    has_then (fit goal (part (as_const c) e)) _ fitting (λ t r.
     has_then (const_value (known_names c.names) e) _ value (λ v s. constant_has goal v (number_goal c goal e n fitting value)))))
-    (then_stands (named_type c.names of) _ (λ goal. then_stands (fit goal (part (as_const [] c) e)) _ (λ t. then_stands (const_value (known_names c.names) e) _ (constant_stands goal))))
+    (then_stands (named_type c.names of) _ (λ goal. then_stands (fit goal (part (as_const c) e)) _ (λ t. then_stands (const_value (known_names c.names) e) _ (constant_stands goal))))
 
 -- ---- declarations
 
-item_known : (x : Text) (i : Item) → Formed x → Well (item_sites x i) → Formed (item_after x i)
-item_known x (item.Struct place attributes name fields) k h =
+declared_known : (x : Text) (i : Item) → Formed x → Well (item_sites x i) → Formed (item_declared x i)
+declared_known x (item.Struct place attributes name fields) k h =
     let inner = well_right (well_right h) in
     struct_known name (struct_tree (outside x) attributes name fields) x (has_struct (outside x) attributes name [] fields k.names (well_left inner) (well_right inner)) k
-item_known x (item.Buffer coherent of name registers) k h =
+declared_known x (item.Buffer coherent of name registers) k h =
     let b = has_buffer (outside x) of k.names (well_left h) in
     record {
       names = stand_push x.names _ k.names (buffer_stands (length x.buffers) (buffer_of (outside x) of) b);
@@ -131,7 +132,7 @@ item_known x (item.Buffer coherent of name registers) k h =
       shared = k.shared;
       functions = k.functions;
     }
-item_known x (item.Shared place of name size) k h =
+declared_known x (item.Shared place of name size) k h =
     let s = has_declared (outside x) _ (named_type x.names of) name size k.names (elemental (outside x) of k.names (well_only (well_left h))) (well_left (well_right h)) in
     record {
       names = stand_push x.names _ k.names (shared_stands (length x.shared) (shared_type x of size) s);
@@ -139,10 +140,17 @@ item_known x (item.Shared place of name size) k h =
       shared = have_push x.shared _ k.shared (has_then (shared_type x of size) _ s (λ t e. tt));
       functions = k.functions;
     }
-item_known x (item.Constant place of name e) k h = record { names = stand_push x.names _ k.names (constant_known (outside x) of e k.names (well_left h)); buffers = k.buffers; shared = k.shared; functions = k.functions }
-item_known x (item.Function attributes result name parameters place body) k h =
+declared_known x (item.Constant place of name e) k h = record { names = stand_push x.names _ k.names (constant_known (outside x) of e k.names (well_left h)); buffers = k.buffers; shared = k.shared; functions = k.functions }
+declared_known x (item.Function attributes result name parameters place body) k h =
     let f = has_function x attributes result name parameters body (length x.functions) k.names h in
     record { names = stand_push x.names _ k.names f.stands; buffers = k.buffers; shared = k.shared; functions = have_push x.functions _ k.functions f.tree }
+
+item_known : (x : Text) (i : Item) → Formed x → Well (item_sites x i) → Formed (item_after x i)
+item_known x i k h = either (is_among (text_names x) (item_name i).name)
+  where
+    either : (b : Bool) → Formed (cond b x (item_declared x i))
+    either true = k
+    either false = declared_known x i k h
 
 items_known : (x : Text) (items : List Item) → Formed x → Well (items_sites x items) → Formed (items_after x items)
 items_known x [] k h = k

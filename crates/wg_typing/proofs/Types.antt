@@ -1,14 +1,13 @@
 -- Which types fit, of those in which operators and calls reckon.
-use Rattle.std.proofs.Common.{◌≡◌, ℕ, Bool, true, false, Option, Some, None, refl, sym, ap, ◌∙◌, subst, arith}
-use Rattle.std.specs.Prelude.{◌==◌}
+use Rattle.std.proofs.Common.{◌≡◌, ℕ, true, Option, Some, None, refl, sym, ap, ◌∙◌, subst, arith}
+use Rattle.std.specs.Prelude.{◌==◌, ◌&&◌}
 use Rattle.std.proofs.lemmas.Grind.{common_steps}
-use Rattle.wg_typing.specs.Conversions.{Numbers, numbers, sized, type_of, same_type, size_fits, numbers_fit, fits, is_number, is_scalar, common_size, common, common_numbers, Class, arithmetic, shift, comparison, logic, suits, class_of, Operation, operation, operation_on, truths}
-use Rattle.wg_typing.specs.Maybe.{where_true}
+use Rattle.wg_typing.specs.Conversions.{Numbers, numbers, sized, type_of, same_type, size_fits, numbers_fit, fits, is_number, is_scalar, common_size, common, common_numbers, Class, arithmetic, shift, comparison, logic, suits, class_of, Operation, operation, operation_on, truths, sizes_fit, joined_size}
 use Rattle.wg_tree.specs.declared.expr.Scalar.{Scalar}
 use Rattle.wg_tree.specs.declared.expr.BinaryOperator.{BinaryOperator}
 use Rattle.wg_typed.specs.declared.types.TypeTree.{TypeTree}
 use Rattle.wg_typed.specs.declared.types.TypeTree.TheVariants as type
-use Rattle.wg_typing.proofs.Facts.{Has, or_right, some_value, then_some}
+use Rattle.wg_typing.proofs.Facts.{Has, or_right, some_value, then_some, where_passes, where_same, and_left, and_right}
 
 -- a number type has its numbers
 pub has_numbers : (t : TypeTree) → is_number t ≡ true → Has (numbers t)
@@ -32,38 +31,26 @@ is_number_type n = sized_number n.of n.size
     sized_number of (Some n) = refl
 
 -- a value of numbers fits where their size does
-pub fits_sized : (t : TypeTree) (n m : Numbers) → numbers t ≡ Some n → size_fits n.size m.size ≡ true → fits t (type_of m) ≡ true
+pub fits_sized : (t : TypeTree) (n m : Numbers) → numbers t ≡ Some n → size_fits n m.size ≡ true → fits t (type_of m) ≡ true
 fits_sized t n m e f = or_right (same_type t (type_of m)) _ (ap (λ o. numbers_fit o (numbers (type_of m))) e ∙ ap (λ o. numbers_fit (Some n) o) (numbers_type m) ∙ f)
 
 same_number : (m : ℕ) → (m == m) ≡ true
 same_number m = grind (arith, common_steps)
 
-turned : (m n : ℕ) → (m == n) ≡ true → (n == m) ≡ true
-turned m n e = grind (arith, common_steps, e)
-
-pub size_same : (s : Option ℕ) → size_fits s s ≡ true
-size_same None = refl
-size_same (Some m) = same_number m
-
--- a common size is one that both sizes fit
-pub common_fits : (a b c : Option ℕ) → common_size a b ≡ Some c → (size_fits a c ≡ true) × (size_fits b c ≡ true)
-common_fits None b c e =
-    let q : b ≡ c = cc in (refl, subst (λ x. size_fits b x ≡ true) q (size_same b))
-common_fits (Some m) None c e =
-    let q : Some m ≡ c = cc in (subst (λ x. size_fits (Some m) x ≡ true) q (same_number m), refl)
-common_fits (Some m) (Some n) c e = picked (m == n) refl e
+pub size_same : (n : Numbers) → size_fits n n.size ≡ true
+size_same n = same n.of n.size
   where
-    picked : (b : Bool) → (m == n) ≡ b → where_true b (Some m) ≡ Some c → (size_fits (Some m) c ≡ true) × (size_fits (Some n) c ≡ true)
-    picked true t e =
-        let q : Some m ≡ c = cc in (subst (λ x. size_fits (Some m) x ≡ true) q (same_number m), subst (λ x. size_fits (Some n) x ≡ true) q (turned m n t))
-    picked false t e = absurd (cc)
+    same : (of : Scalar) (size : Option ℕ) → sizes_fit of size size ≡ true
+    same of None = refl
+    same of (Some m) = same_number m
 
--- what fits a size that fits another fits that one
-pub size_through : (a b c : Option ℕ) → size_fits a b ≡ true → size_fits b c ≡ true → size_fits a c ≡ true
-size_through None b c e f = refl
-size_through (Some m) None c e f = absurd (cc)
-size_through (Some m) (Some n) None e f = f
-size_through (Some m) (Some n) (Some l) e f = grind (arith, common_steps, e, f)
+-- both may be of their joined size
+pub joined_fits : (a b : Numbers) (c : Option ℕ) → joined_size a b ≡ Some c → (size_fits a c ≡ true) × (size_fits b c ≡ true)
+joined_fits a b c e =
+    let s = then_some (common_size a.size b.size) _ c e in
+    let h = where_passes (size_fits a s.0 && size_fits b s.0) s.0 c s.2 in
+    let q = where_same (size_fits a s.0 && size_fits b s.0) s.0 c s.2 in
+    (subst (λ x. size_fits a x ≡ true) q (and_left (size_fits a s.0) _ h), subst (λ x. size_fits b x ≡ true) q (and_right (size_fits a s.0) _ h))
 
 -- ---- two-sided operators
 
@@ -77,17 +64,17 @@ scalar_size (type.Array of k) n e f = absurd (cc)
 operation_fits : (k : Class) (u : TypeTree) (a b : Numbers) (o : Operation) → numbers u ≡ Some b → suits k u ≡ true → operation k a b ≡ Some o → fits u (type_of o.right) ≡ true
 operation_fits arithmetic u a b o e s h =
     let c = then_some (common a b) _ o h in
-    let d = then_some (common_size a.size b.size) _ c.0 c.1 in
-    subst (λ (x : Operation). fits u (type_of x.right) ≡ true) (some_value c.2) (fits_sized u b c.0 e (subst (λ (n : Numbers). size_fits b.size n.size ≡ true) (some_value d.2) (common_fits a.size b.size d.0 d.1).1))
+    let d = then_some (joined_size a b) _ c.0 c.1 in
+    subst (λ (x : Operation). fits u (type_of x.right) ≡ true) (some_value c.2) (fits_sized u b c.0 e (subst (λ (n : Numbers). size_fits b n.size ≡ true) (some_value d.2) (joined_fits a b d.0 d.1).1))
 operation_fits shift u a b o e s h =
-    let d = then_some (common_size a.size b.size) _ o h in
-    subst (λ (x : Operation). fits u (type_of x.right) ≡ true) (some_value d.2) (fits_sized u b _ e (common_fits a.size b.size d.0 d.1).1)
+    let d = then_some (joined_size a b) _ o h in
+    subst (λ (x : Operation). fits u (type_of x.right) ≡ true) (some_value d.2) (fits_sized u b _ e (joined_fits a b d.0 d.1).1)
 operation_fits comparison u a b o e s h =
     let c = then_some (common a b) _ o h in
-    let d = then_some (common_size a.size b.size) _ c.0 c.1 in
-    subst (λ (x : Operation). fits u (type_of x.right) ≡ true) (some_value c.2) (fits_sized u b c.0 e (subst (λ (n : Numbers). size_fits b.size n.size ≡ true) (some_value d.2) (common_fits a.size b.size d.0 d.1).1))
+    let d = then_some (joined_size a b) _ c.0 c.1 in
+    subst (λ (x : Operation). fits u (type_of x.right) ≡ true) (some_value c.2) (fits_sized u b c.0 e (subst (λ (n : Numbers). size_fits b n.size ≡ true) (some_value d.2) (joined_fits a b d.0 d.1).1))
 operation_fits logic u a b o e s h =
-    subst (λ (x : Operation). fits u (type_of x.right) ≡ true) (some_value h) (fits_sized u b (truths None) e (ap (λ z. size_fits z None) (scalar_size u b s e)))
+    subst (λ (x : Operation). fits u (type_of x.right) ≡ true) (some_value h) (fits_sized u b (truths None) e (ap (λ z. sizes_fit b.of z None) (scalar_size u b s e)))
 
 pub operation_on_fits : (op : BinaryOperator) (t u : TypeTree) (o : Operation) → suits (class_of op) u ≡ true → operation_on op t u ≡ Some o → fits u (type_of o.right) ≡ true
 operation_on_fits op t u o s h =
@@ -97,9 +84,9 @@ operation_on_fits op t u o s h =
 
 -- ---- `?:`
 
-pub chosen_fits : (a b c : Numbers) → common_numbers a b ≡ Some c → (size_fits a.size c.size ≡ true) × (size_fits b.size c.size ≡ true)
+pub chosen_fits : (a b c : Numbers) → common_numbers a b ≡ Some c → (size_fits a c.size ≡ true) × (size_fits b c.size ≡ true)
 chosen_fits a b c h =
-    let d = then_some (common_size a.size b.size) _ c h in
+    let d = then_some (joined_size a b) _ c h in
     let q = some_value d.2 in
-    let f = common_fits a.size b.size d.0 d.1 in
-    (subst (λ (n : Numbers). size_fits a.size n.size ≡ true) q f.0, subst (λ (n : Numbers). size_fits b.size n.size ≡ true) q f.1)
+    let f = joined_fits a b d.0 d.1 in
+    (subst (λ (n : Numbers). size_fits a n.size ≡ true) q f.0, subst (λ (n : Numbers). size_fits b n.size ≡ true) q f.1)

@@ -1,14 +1,14 @@
 -- Expressions that have to convert, values of a `const`, and types that are declared.
-use Rattle.std.proofs.Common.{◌≡◌, ℕ, true, false, List, [], Option, Some, None, subst, arith}
+use Rattle.std.proofs.Common.{◌≡◌, ℕ, true, false, List, Option, Some, None, subst, arith}
 use Rattle.std.specs.Prelude.{nat_lt, nat_le}
 use Rattle.std.proofs.lemmas.Grind.{common_steps}
-use Rattle.wg_typing.specs.AttributeArguments.{is_positive}
+use Rattle.wg_typing.specs.AttributeArguments.{is_positive, is_narrow}
 use Rattle.wg_typed.specs.Constants.{const_value}
 use Rattle.wg_typing.specs.Conversions.{uint_type, element_of, of_value_type}
 use Rattle.wg_typing.specs.Layers.{Part, typed_part}
 use Rattle.wg_typed.specs.Layout.{words_of}
 use Rattle.wg_typing.specs.RulesLimitPassed.{size_below}
-use Rattle.wg_typing.specs.RulesMismatch.{unfit_wanted, unfit_const}
+use Rattle.wg_typing.specs.RulesMismatch.{unfit_wanted, unfit_const, wide_size}
 use Rattle.wg_typing.specs.RulesShared.{is_typed, no_value}
 use Rattle.wg_typing.specs.Scope.{Context, as_const, known_names, look, struct_if, named_type}
 use Rattle.wg_typing.specs.Site.{AtType}
@@ -26,7 +26,7 @@ use Rattle.wg_typed.specs.declared.types.TypeTree.{TypeTree}
 use Rattle.wg_typing.specs.declared.scope.Meant.{Meant}
 use Rattle.wg_typing.specs.declared.scope.Meant.TheVariants as meant
 use Rattle.wg_typing.proofs.Exprs.{has_value}
-use Rattle.wg_typing.proofs.Facts.{Empty, Has, empty_left, empty_right, has_then, has_where, holds_nowhere, is_false, is_some_has, not_false}
+use Rattle.wg_typing.proofs.Facts.{Empty, Has, empty_left, empty_right, has_then, has_where, holds_nowhere, is_false, is_some_has, not_false, implied}
 use Rattle.wg_typing.proofs.Layers.{Sound}
 use Rattle.wg_typing.proofs.Names.{AllStand, has_type}
 use Rattle.wg_typing.proofs.Parts.{IsTyped, has_fit, part_typed}
@@ -48,7 +48,7 @@ wanted_fits c goal e s h = has_fit goal (part c e) (wanted_typed c (Some goal) e
 
 -- ---- a `const`
 
-pub sound_const : (c : Context) → AllStand c.names → Sound (as_const [] c)
+pub sound_const : (c : Context) → AllStand c.names → Sound (as_const c)
 sound_const c n = record { names = n; values = tt }
 
 has_constant : (o : Option ConstValue) (p : Part) → IsTyped p → Empty (unfit_const o p) → Has o
@@ -56,7 +56,7 @@ has_constant None p t h = absurd (holds_nowhere (is_typed p) p.place (is_some_ha
 has_constant (Some v) p t h = tt
 
 pub has_const : (c : Context) (goal : Option TypeTree) (e : Expr) → AllStand c.names → Well (const_sites c goal e) → Has (const_value (known_names c.names) e)
-has_const c goal e n h = has_constant (const_value (known_names c.names) e) (part (as_const [] c) e) (wanted_typed (as_const [] c) goal e (sound_const c n) (well_left h)) ((well_only (well_right h)).clear Mismatch)
+has_const c goal e n h = has_constant (const_value (known_names c.names) e) (part (as_const c) e) (wanted_typed (as_const c) goal e (sound_const c n) (well_left h)) ((well_only (well_right h)).clear Mismatch)
 
 -- ---- types that words name
 
@@ -97,13 +97,15 @@ array_has : (t : TypeTree) (v : ConstValue) → Has (element_of t) → is_positi
 array_has t v h e = has_then (element_of t) _ h (λ of q. has_where (is_positive v) _ e)
 
 has_size_value : (c : Context) (e : Expr) → AllStand c.names → Well (const_sites c (Some uint_type) e) → Has (size_value c e)
-has_size_value c e n h = has_then (typed_part (part (as_const [] c) e)) _ (wanted_typed (as_const [] c) (Some uint_type) e (sound_const c n) (well_left h)) (λ t q. has_const c (Some uint_type) e n h)
+has_size_value c e n h = has_then (typed_part (part (as_const c) e)) _ (wanted_typed (as_const c) (Some uint_type) e (sound_const c n) (well_left h)) (λ t q. has_const c (Some uint_type) e n h)
 
 has_sized : (c : Context) (of : Option TypeTree) (name : Named) (size : Option Expr) → AllStand c.names → Elemental of → Well (size_sites c name size) → Has (type_of_size c of size)
 has_sized c None name size n e h = absurd e
 has_sized c (Some t) name None n e h = tt
 has_sized c (Some t) name (Some size) n e h = has_then (size_value c size) _ (has_size_value c size n (well_left h)) (λ v q.
-    array_has t v e (not_false (is_positive v) (is_false _ name.place (subst (λ x. Empty (size_below name x)) q ((well_only (well_right h)).clear LimitPassed)))))
+    array_has t v e (implied (is_narrow v) (is_positive v)
+    (not_false (is_narrow v) (is_false _ (part (as_const c) size).place (subst (λ x. Empty (wide_size (part (as_const c) size).place x)) q ((well_only (well_right h)).clear Mismatch))))
+    (is_false _ name.place (subst (λ x. Empty (size_below name x)) q ((well_only (well_right h)).clear LimitPassed)))))
 
 pub within : (amount limit : ℕ) → nat_lt limit amount ≡ false → nat_le amount limit ≡ true
 within amount limit e = grind (arith, common_steps, e)

@@ -1,6 +1,6 @@
 -- What the attributes of a function and their arguments tell (DirectX-Specs, Work Graphs, shader function attributes; that names of attributes
 -- are compared without regard to case is own).
-use Rattle.std.specs.Prelude.{ℕ, ◌*◌, Bool, false, not, ◌&&◌, ◌||◌, nat_lt, nat_le, if◌then◌else◌, is_some, List, [], ◌∷◌, codes, Option, Some, None, true}
+use Rattle.std.specs.Prelude.{ℕ, ◌*◌, Bool, false, not, ◌&&◌, ◌||◌, nat_lt, nat_le, if◌then◌else◌, is_some, List, [], ◌∷◌, codes, Option, Some, None, true, ◌==◌}
 use Prim.Native.String.{String}
 use Rattle.std.specs.Str.{bytes_eq}
 use Rattle.wg_typing.specs.Maybe.{◌>>=◌, where_true}
@@ -31,9 +31,13 @@ abbrev pub first_called : String → List TypedAttribute → Option TypedAttribu
 first_called word [] = None
 first_called word (a ∷ rest) = if is_called word a.name.name then Some a else first_called word rest
 
--- a number of at least 1
+-- an `int` or a `uint`
+abbrev pub is_narrow : ConstValue → Bool
+is_narrow v = v.bits == 32
+
+-- such a number, of at least 1
 abbrev pub is_positive : ConstValue → Bool
-is_positive v = nat_lt 0 v.value && not (v.signed && nat_le 2147483648 v.value)
+is_positive v = is_narrow v && nat_lt 0 v.value && not (v.signed && nat_le 2147483648 v.value)
 
 abbrev pub count_in : ArgumentValue → Option ℕ
 count_in (argument.Number v) = where_true (is_positive v) v.value

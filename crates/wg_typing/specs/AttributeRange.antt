@@ -1,10 +1,9 @@
--- Rule 404 of attributes: an argument out of its range, or arguments of another form. Its number is own.
+-- Rule 404 of attributes: an argument out of its range or of a wide type, or arguments of another form. Its number is own.
 use Rattle.std.specs.Prelude.{ℕ, ◌*◌, ◌==◌, Bool, true, false, not, ◌&&◌, nat_le, nat_lt, if◌then◌else◌, is_some, List, [], ◌∷◌, slice_get, Option, Some, None}
-use Rattle.std.specs.List.{list_all}
 use Rattle.wg_words.specs.declared.place.Place.{Place}
 use Rattle.wg_typing.specs.Maybe.{◌>>=◌, where_true}
-use Rattle.wg_tokens.specs.Characters.{is_letter, is_word}
-use Rattle.wg_typing.specs.AttributeArguments.{Mode, mode_named, has, is_one_text, product, in_mode, is_thread}
+use Rattle.wg_words.specs.Characters.{is_identifier}
+use Rattle.wg_typing.specs.AttributeArguments.{Mode, mode_named, has, is_one_text, product, in_mode, is_thread, is_narrow}
 use Rattle.wg_typing.specs.AttributeSites.{AttributeSite, AtAttribute, AtNode, AtInput, AtOutput, AtValue, Position, on_struct, on_node, on_plain, on_input, on_output, on_output_array, on_value, on_branch, Own, Kind, a_value, an_input, an_output, a_handle, kind_of}
 use Rattle.wg_typing.specs.AttributeNames.{Name, shader, node_launch, num_threads, dispatch_grid, max_dispatch_grid, node_id, program_entry, max_recursion_depth, max_records, max_records_shared_with, node_array_size, allow_sparse_nodes, track_sharing, hint, standing}
 use Rattle.wg_typing.specs.Sites.{at_if}
@@ -18,13 +17,13 @@ is_nothing [] = true
 is_nothing (a ∷ rest) = false
 
 abbrev pub is_number : ArgumentValue → Bool
-is_number (argument.Number v) = true
+is_number (argument.Number v) = is_narrow v
 is_number (argument.Text bytes) = false
 is_number (argument.Parameter number) = false
 is_number argument.Other = false
 
 abbrev pub is_number_between : ℕ → ℕ → ArgumentValue → Bool
-is_number_between low high (argument.Number v) = nat_le low v.value && nat_le v.value high
+is_number_between low high (argument.Number v) = is_narrow v && nat_le low v.value && nat_le v.value high
 is_number_between low high (argument.Text bytes) = false
 is_number_between low high (argument.Parameter number) = false
 is_number_between low high argument.Other = false
@@ -35,7 +34,7 @@ is_one_between low high _ = false
 
 -- a number of groups in one direction
 abbrev pub groups_in : ArgumentValue → Option ℕ
-groups_in (argument.Number v) = where_true (nat_le 1 v.value && nat_le v.value 65535) v.value
+groups_in (argument.Number v) = where_true (is_narrow v && nat_le 1 v.value && nat_le v.value 65535) v.value
 groups_in (argument.Text bytes) = None
 groups_in (argument.Parameter number) = None
 groups_in argument.Other = None
@@ -57,10 +56,6 @@ is_below limit (Some n) = nat_lt n limit
 abbrev pub are_threads : Option Mode → Option ℕ → Bool
 are_threads mode None = false
 are_threads mode (Some n) = if in_mode is_thread mode then n == 1 else true
-
-abbrev pub is_identifier : List ℕ → Bool
-is_identifier [] = false
-is_identifier (c ∷ name) = is_letter c && list_all is_word name
 
 -- a string that is a name; own
 abbrev pub is_id_name : ArgumentValue → Bool

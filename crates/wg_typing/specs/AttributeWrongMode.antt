@@ -4,7 +4,8 @@ use Rattle.wg_words.specs.declared.place.Place.{Place}
 use Rattle.wg_typing.specs.AttributeArguments.{Mode, in_mode, is_broadcasting, is_coalescing, is_thread}
 use Rattle.wg_typing.specs.AttributeSites.{AttributeSite, AtAttribute, AtNode, AtInput, AtOutput, AtValue, Position, on_struct, on_node, on_plain, on_input, on_output, on_output_array, on_value, on_branch}
 use Rattle.wg_typing.specs.AttributeNames.{Name, dispatch_grid, max_dispatch_grid, max_records, standing}
-use Rattle.wg_typing.specs.AttributeSystem.{System, dispatch_thread_id, group_id, group_thread_id, group_index, system_of}
+use Rattle.wg_typed.specs.declared.typed.SystemValue.{SystemValue}
+use Rattle.wg_typed.specs.declared.typed.SystemValue.TheVariants as system
 use Rattle.wg_typing.specs.Sites.{at_if}
 use Rattle.wg_tree.specs.declared.stmt.ObjectWord.{ObjectWord}
 use Rattle.wg_tree.specs.declared.stmt.ObjectWord.TheVariants as object
@@ -46,13 +47,13 @@ takes object.ThreadNodeOutputRecords mode = false
 takes object.GroupNodeOutputRecords mode = false
 
 -- the system values of a launch mode: all for broadcasting, the last two for coalescing, none for thread launch; own
-abbrev pub gives : System → Mode → Bool
-gives dispatch_thread_id mode = is_broadcasting mode
-gives group_id mode = is_broadcasting mode
-gives group_thread_id mode = not (is_thread mode)
-gives group_index mode = not (is_thread mode)
+abbrev pub gives : SystemValue → Mode → Bool
+gives system.DispatchThreadId mode = is_broadcasting mode
+gives system.GroupId mode = is_broadcasting mode
+gives system.GroupThreadId mode = not (is_thread mode)
+gives system.GroupIndex mode = not (is_thread mode)
 
-abbrev pub is_not_given : Option Mode → Option System → Bool
+abbrev pub is_not_given : Option Mode → Option SystemValue → Bool
 is_not_given mode None = false
 is_not_given mode (Some s) = in_mode (λ m. not (gives s m)) mode
 
@@ -61,4 +62,4 @@ wrong_mode_at (AtAttribute position before a) = at_if (is_forbidden position (st
 wrong_mode_at (AtNode f fields) = []
 wrong_mode_at (AtInput mode word p) = at_if (in_mode (λ m. not (takes word m)) mode) p.name.place
 wrong_mode_at (AtOutput array p) = []
-wrong_mode_at (AtValue mode p) = at_if (is_not_given mode (system_of p)) p.name.place
+wrong_mode_at (AtValue mode p) = at_if (is_not_given mode p.system) p.name.place

@@ -26,16 +26,16 @@ attribute_number Range = 404
 attribute_number WrongMode = 405
 
 -- where a site breaks a rule
-abbrev pub places : AttributeRule → AttributeSite → List Place
-places Unknown s = unknown_at s
-places Missing s = missing_at s
-places Twice s = twice_at s
-places Range s = range_at s
-places WrongMode s = wrong_mode_at s
+abbrev pub attribute_places : AttributeRule → AttributeSite → List Place
+attribute_places Unknown s = unknown_at s
+attribute_places Missing s = missing_at s
+attribute_places Twice s = twice_at s
+attribute_places Range s = range_at s
+attribute_places WrongMode s = wrong_mode_at s
 
 -- a rule is broken at a place of the text
 abbrev pub BreaksAttributes : AttributeRule → Place → Typed → Type 0
-BreaksAttributes rule place typed = (s : AttributeSite) × Among (sites_of typed) s × In (places rule s) place
+BreaksAttributes rule place typed = (s : AttributeSite) × Among (sites_of typed) s × In (attribute_places rule s) place
 
 abbrev pub AreRight : Typed → Type 0
 AreRight typed = (rule : AttributeRule) (place : Place) → BreaksAttributes rule place typed → ⊥

@@ -1,6 +1,6 @@
 -- Which types convert to which, and the types in which operators reckon (HLSL Shader Model 6.8, without implicit truncation; the
 -- sizes of the operands of a shift are own).
-use Rattle.std.specs.Prelude.{ℕ, ◌==◌, Bool, true, false, ◌&&◌, ◌||◌, nat_lt, if◌then◌else◌, Option, Some, None}
+use Rattle.std.specs.Prelude.{ℕ, ◌==◌, Bool, true, false, ◌&&◌, ◌||◌, if◌then◌else◌, Option, Some, None, not}
 use Rattle.wg_typing.specs.Maybe.{◌>>=◌, where_true}
 use Rattle.wg_tree.specs.declared.expr.Scalar.{Scalar}
 use Rattle.wg_tree.specs.declared.expr.Scalar.TheVariants as scalar
@@ -12,14 +12,22 @@ use Rattle.wg_typed.specs.declared.types.ElementType.{ElementType}
 use Rattle.wg_typed.specs.declared.types.ElementType.TheVariants as element
 use Rattle.wg_typed.specs.declared.types.TypeTree.{TypeTree}
 use Rattle.wg_typed.specs.declared.types.TypeTree.TheVariants as type
+use Rattle.wg_typed.specs.Operators.{is_wide, counted, common_scalar, literal_scalar}
 
 -- ---- equal types
 
+-- a number of its own for each scalar
+abbrev pub scalar_number : Scalar → ℕ
+scalar_number scalar.Bool = 0
+scalar_number scalar.Int = 1
+scalar_number scalar.Uint = 2
+scalar_number scalar.Int16 = 3
+scalar_number scalar.Uint16 = 4
+scalar_number scalar.Int64 = 5
+scalar_number scalar.Uint64 = 6
+
 abbrev pub same_scalar : Scalar → Scalar → Bool
-same_scalar scalar.Bool scalar.Bool = true
-same_scalar scalar.Int scalar.Int = true
-same_scalar scalar.Uint scalar.Uint = true
-same_scalar _ _ = false
+same_scalar a b = scalar_number a == scalar_number b
 
 abbrev pub same_element : ElementType → ElementType → Bool
 same_element (element.Scalar a) (element.Scalar b) = same_scalar a b
@@ -59,6 +67,11 @@ abbrev pub of_value_type : ValueType → TypeTree
 of_value_type (value_type.Scalar of) = type.Scalar of
 of_value_type (value_type.Vector of n) = type.Vector of n
 
+-- the size of a vector
+abbrev pub size_of : ValueType → Option ℕ
+size_of (value_type.Scalar of) = None
+size_of (value_type.Vector of n) = Some n
+
 abbrev pub truth_type : TypeTree
 truth_type = type.Scalar scalar.Bool
 
@@ -81,32 +94,31 @@ is_scalar _ = false
 
 -- `int` or `uint`
 abbrev pub is_word : TypeTree → Bool
-is_word (type.Scalar scalar.Int) = true
-is_word (type.Scalar scalar.Uint) = true
-is_word _ = false
+is_word t = same_type t (type.Scalar scalar.Int) || same_type t uint_type
 
 abbrev pub is_uint : Scalar → Bool
-is_uint scalar.Uint = true
-is_uint _ = false
+is_uint s = same_scalar s scalar.Uint
 
--- a number without a suffix is `int` below 2^31
-abbrev pub number_type : ℕ → Bool → TypeTree
-number_type n true = uint_type
-number_type n false = if nat_lt n 2147483648 then type.Scalar scalar.Int else uint_type
+abbrev pub number_type : ℕ → Bool → Bool → TypeTree
+number_type value unsigned long = type.Scalar (literal_scalar value unsigned long)
 
 -- ---- conversions
 
--- a scalar fills a vector; two vectors have equal sizes
-abbrev pub size_fits : Option ℕ → Option ℕ → Bool
-size_fits None goal = true
-size_fits (Some m) (Some n) = m == n
-size_fits (Some m) None = false
+-- a scalar fills a vector, but no wide one does; two vectors have equal sizes
+abbrev pub sizes_fit : Scalar → Option ℕ → Option ℕ → Bool
+sizes_fit of None None = true
+sizes_fit of None (Some n) = not (is_wide of)
+sizes_fit of (Some m) (Some n) = m == n
+sizes_fit of (Some m) None = false
+
+abbrev pub size_fits : Numbers → Option ℕ → Bool
+size_fits n size = sizes_fit n.of n.size size
 
 abbrev pub numbers_fit : Option Numbers → Option Numbers → Bool
-numbers_fit (Some a) (Some b) = size_fits a.size b.size
+numbers_fit (Some a) (Some b) = size_fits a b.size
 numbers_fit _ _ = false
 
--- whether a value of the one type may stand where the other is wanted: the three scalars convert to each other
+-- whether a value of the one type may stand where the other is wanted: the scalars convert to each other
 abbrev pub fits : TypeTree → TypeTree → Bool
 fits from goal = same_type from goal || numbers_fit (numbers from) (numbers goal)
 
@@ -118,26 +130,22 @@ common_size None b = Some b
 common_size (Some m) None = Some (Some m)
 common_size (Some m) (Some n) = where_true (m == n) (Some m)
 
--- in arithmetic `bool` becomes `int`
-abbrev pub counted : Scalar → Scalar
-counted scalar.Bool = scalar.Int
-counted scalar.Int = scalar.Int
-counted scalar.Uint = scalar.Uint
+-- the common size, where both may be of it: a wide scalar is not taken with a vector
+abbrev pub joined_size : Numbers → Numbers → Option (Option ℕ)
+joined_size a b = common_size a.size b.size >>= (λ size. where_true (size_fits a size && size_fits b size) size)
 
--- `int` with `uint` becomes `uint`
-abbrev pub common_scalar : Scalar → Scalar → Scalar
-common_scalar a b = if is_uint a || is_uint b then scalar.Uint else scalar.Int
+abbrev pub is_truth : Scalar → Bool
+is_truth s = same_scalar s scalar.Bool
 
--- the same, where two `bool` stay `bool`
+-- the common scalar, where two `bool` stay `bool`
 abbrev pub chosen_scalar : Scalar → Scalar → Scalar
-chosen_scalar scalar.Bool scalar.Bool = scalar.Bool
-chosen_scalar a b = common_scalar a b
+chosen_scalar a b = if is_truth a && is_truth b then scalar.Bool else common_scalar a b
 
 abbrev pub common : Numbers → Numbers → Option Numbers
-common a b = common_size a.size b.size >>= (λ size. Some (record { of = common_scalar a.of b.of; size = size }))
+common a b = joined_size a b >>= (λ size. Some (record { of = common_scalar a.of b.of; size = size }))
 
 abbrev pub common_numbers : Numbers → Numbers → Option Numbers
-common_numbers a b = common_size a.size b.size >>= (λ size. Some (record { of = chosen_scalar a.of b.of; size = size }))
+common_numbers a b = joined_size a b >>= (λ size. Some (record { of = chosen_scalar a.of b.of; size = size }))
 
 -- ---- operators
 
@@ -186,7 +194,7 @@ truths size = record { of = scalar.Bool; size = size }
 -- A shift has the left type, of the common size, and its count keeps its own scalar.
 abbrev pub operation : Class → Numbers → Numbers → Option Operation
 operation arithmetic a b = common a b >>= (λ c. Some (record { left = c; right = c; result = c }))
-operation shift a b = common_size a.size b.size >>= (λ size. Some (record {
+operation shift a b = joined_size a b >>= (λ size. Some (record {
   left = record { of = counted a.of; size = size };
   right = record { of = counted b.of; size = size };
   result = record { of = counted a.of; size = size };

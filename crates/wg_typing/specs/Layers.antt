@@ -15,6 +15,7 @@ use Rattle.wg_typing.specs.declared.scope.Standing.TheVariants as standing
 use Rattle.wg_typing.specs.declared.scope.Value.{Value}
 use Rattle.wg_typing.specs.declared.scope.Value.TheVariants as value
 use Rattle.wg_typing.specs.declared.scope.Act.{Act}
+use Rattle.wg_typing.specs.TypingActs.{NamedCall, call_in}
 
 -- ---- layers
 
@@ -40,7 +41,7 @@ abbrev pub map_link : {P Q : Type 0} → (P → Q) → LinkLayer P → LinkLayer
 map_link f l = record { operator = l.operator; operand = f l.operand }
 
 abbrev pub map_layer : {P Q : Type 0} → (P → Q) → Layer P → Layer Q
-map_layer f (Expr-F.Number place value unsigned) = Expr-F.Number place value unsigned
+map_layer f (Expr-F.Number place value unsigned long) = Expr-F.Number place value unsigned long
 map_layer f (Expr-F.Text place bytes) = Expr-F.Text place bytes
 map_layer f (Expr-F.Truth place b) = Expr-F.Truth place b
 map_layer f (Expr-F.Name name) = Expr-F.Name name
@@ -62,13 +63,19 @@ pub data Piece : Type 0 where
   word : Named → Piece
   zero_word : Piece
   other : Bool → Piece
+  -- what follows are operands of other operators
+  misused : Piece
 
 -- What an expression shows to what is around it: the place of its first token; what it is, which is absent where a rule is broken
--- in it; and what it is to a barrier.
+-- in it; the output call or syncing barrier that it is by its name; and what it is to a barrier.
 pub record Part : Type 0 where
   pub place : Place
   pub value : Option Value
+  pub by_name : Option NamedCall
   pub pieces : List Piece
+
+abbrev pub call_of : Part → Option NamedCall
+call_of p = call_in p.value p.by_name
 
 -- a part that has a type
 pub record TypedPart : Type 0 where

@@ -9,12 +9,15 @@ pub mod AttributeUnknown
 pub mod AttributeWrongMode
 pub mod Attributes
 pub mod Conversions
+pub mod Faults
 pub mod Layers
 pub mod Maybe
 pub mod Named
+pub mod Region
 pub mod RulesActs
 pub mod RulesBadBarrier
 pub mod RulesBadOutputCall
+pub mod RulesCollective
 pub mod RulesLimitPassed
 pub mod RulesMismatch
 pub mod RulesMismatchCall
@@ -35,8 +38,10 @@ pub mod TypingActs
 pub mod TypingAttributes
 pub mod TypingBarrier
 pub mod TypingBuffer
+pub mod TypingCalled
 pub mod TypingCallee
 pub mod TypingCalls
+pub mod TypingChanged
 pub mod TypingConstant
 pub mod TypingConstructor
 pub mod TypingDeclaration
@@ -51,6 +56,7 @@ pub mod TypingHandle
 pub mod TypingInterlocked
 pub mod TypingIntrinsic
 pub mod TypingLoop
+pub mod TypingMarks
 pub mod TypingName
 pub mod TypingObjects
 pub mod TypingOperators
@@ -60,4 +66,5 @@ pub mod TypingSoFar
 pub mod TypingStep
 pub mod TypingStmt
 pub mod TypingStruct
+pub mod TypingSystem
 pub mod TypingText

@@ -10,10 +10,10 @@ use Rattle.wg_typing.specs.TypingExpr.{part}
 use Rattle.wg_typing.specs.TypingStep.{operator_of}
 use Rattle.wg_typing.specs.TypingHandle.{handle_word, request_in}
 use Rattle.wg_typing.specs.Sites.{at_if}
-use Rattle.wg_typing.specs.RulesShared.{is_typed, value_parts, no_value, each_part, failing, unfit}
+use Rattle.wg_typing.specs.RulesShared.{is_typed, no_value, failing, unfit, no_value_in}
 use Rattle.wg_typing.specs.TypingActs.{is_plain_act}
-use Rattle.wg_typing.specs.Site.{Site, AtExpr, AtFlag, AtWanted, AtConst, AtStep, AtHandle, AtReturn, AtJump, AtType, AtName, AtSize, AtLocal, AtLimit, AtObject, AtFunction}
-use Rattle.wg_typing.specs.RulesMismatchExpr.{clash_on, unfit_in}
+use Rattle.wg_typing.specs.Site.{Site, AtExpr, AtValue, AtForm, AtLink, AtFlag, AtWanted, AtStart, AtConst, AtStep, AtHandle, AtReturn, AtJump, AtType, AtName, AtSize, AtLocal, AtLimit, AtObject, AtFunction}
+use Rattle.wg_typing.specs.RulesMismatchExpr.{unfit_form, unfit_link, clash_on, unfit_in}
 use Rattle.wg_tree.specs.declared.expr.BinaryOperator.{BinaryOperator}
 use Rattle.wg_tree.specs.declared.expr.Expr.{Expr}
 use Rattle.wg_tree.specs.declared.stmt.Step.{Step}
@@ -23,6 +23,7 @@ use Rattle.wg_typed.specs.declared.types.TypeTree.{TypeTree}
 use Rattle.wg_typing.specs.declared.scope.Act.TheVariants as act
 use Rattle.wg_typing.specs.declared.scope.Value.{Value}
 use Rattle.wg_typing.specs.declared.scope.Value.TheVariants as value
+use Rattle.wg_typing.specs.AttributeArguments.{is_narrow}
 
 -- an expression that is wanted of a type
 abbrev pub unfit_wanted : Option TypeTree → Part → List Place
@@ -36,6 +37,11 @@ unfit_const None p = at_if (is_typed p) p.place
 
 abbrev pub const_if : Context → Expr → Option ConstValue
 const_if c e = const_value (known_names c.names) e
+
+-- the size of an array, which is an `int` or a `uint`
+abbrev pub wide_size : Place → Option ConstValue → List Place
+wide_size place (Some v) = at_if (not (is_narrow v)) place
+wide_size place None = []
 
 -- `target op= value`
 abbrev pub unfit_back : TypedPart → TypedPart → Option Operation → List Place
@@ -96,18 +102,22 @@ maybe_part c None = None
 maybe_part c (Some e) = Some (part c e)
 
 abbrev pub mismatch : Site → List Place
-mismatch (AtExpr c place layer) = each_part no_value (value_parts c layer) ++ unfit_in c place layer
-mismatch (AtFlag v) = []
+mismatch (AtExpr c place layer) = unfit_in c place layer
+mismatch (AtValue around p) = no_value_in around p
+mismatch (AtForm c place a f) = unfit_form place a f
+mismatch (AtLink place before l) = unfit_link place before l
+mismatch (AtFlag call) = []
 mismatch (AtWanted c goal e) = unfit_wanted goal (part c e)
-mismatch (AtConst c e) = unfit_const (const_if c e) (part (as_const [] c) e)
+mismatch (AtStart c goal e) = unfit_wanted goal (part c e)
+mismatch (AtConst c e) = unfit_const (const_if c e) (part (as_const c) e)
 mismatch (AtStep c header s) = unfit_step c s
 mismatch (AtHandle c of name number e) = unfit_handle (handle_word of.word) number (part c e).place (part c e).value
 mismatch (AtReturn c place e) = unfit_return c.returns place (maybe_part c e)
 mismatch (AtJump c place) = []
 mismatch (AtType c of) = []
 mismatch (AtName scope name) = []
-mismatch (AtSize name v) = []
+mismatch (AtSize name place v) = wide_size place v
 mismatch (AtLocal name words) = []
 mismatch (AtLimit name amount limit) = []
 mismatch (AtObject allowed of record_type) = []
-mismatch (AtFunction name around has_result events) = []
+mismatch (AtFunction name around u has_result events) = []

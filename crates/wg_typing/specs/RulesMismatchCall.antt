@@ -1,6 +1,6 @@
 -- Mismatch in the arguments of a call: an argument that does not convert, at its first token, or arguments that do not fit together, at the
 -- called name. Own.
-use Rattle.std.specs.Prelude.{◌==◌, Bool, true, false, not, ◌&&◌, is_none, List, [], ◌∷◌, ◌++◌, length, Option, Some, None, if◌then◌else◌}
+use Rattle.std.specs.Prelude.{◌==◌, Bool, not, ◌&&◌, is_none, List, [], ◌∷◌, ◌++◌, length, Option, Some, None, if◌then◌else◌}
 use Rattle.wg_words.specs.declared.place.Place.{Place}
 use Rattle.wg_typing.specs.Conversions.{uint_type, same_type, fits, is_word}
 use Rattle.wg_typing.specs.Scope.{Context}
@@ -12,17 +12,11 @@ use Rattle.wg_typing.specs.TypingBarrier.{orders, syncs_of}
 use Rattle.wg_typing.specs.TypingOperators.{typed_of}
 use Rattle.wg_typing.specs.Sites.{at_if}
 use Rattle.wg_typing.specs.RulesShared.{where_typed, flags_whole, failing, each_failing, maybe_failing, unfit}
-use Rattle.wg_tree.specs.declared.item.Direction.{Direction}
-use Rattle.wg_tree.specs.declared.item.Direction.TheVariants as direction
 use Rattle.wg_typed.specs.declared.types.TypeTree.{TypeTree}
 use Rattle.wg_typed.specs.declared.typed_expr.Intrinsic.{Intrinsic}
 use Rattle.wg_typed.specs.declared.typed_stmt.InterlockedForm.{InterlockedForm}
 use Rattle.wg_typing.specs.declared.scope.FormalParameter.{FormalParameter}
-
-abbrev pub is_given_back : Direction → Bool
-is_given_back direction.In = false
-is_given_back direction.Out = true
-is_given_back direction.InOut = true
+use Rattle.wg_typing.specs.TypingFunctionCall.{is_given_back}
 
 -- an argument of a plain function
 abbrev pub passes : FormalParameter → TypedPart → Bool

@@ -4,14 +4,13 @@ use Rattle.std.specs.Prelude.{Bool, true, false, not, ◌&&◌, is_none, List, [
 use Rattle.wg_words.specs.declared.place.Place.{Place}
 use Rattle.wg_typing.specs.Maybe.{◌>>=◌}
 use Rattle.wg_typing.specs.Named.{is_among}
-use Rattle.wg_typing.specs.Conversions.{Numbers, Operation, numbers, of_value_type, truth_type, uint_type, is_number, class_of, suits, operation_on, common_numbers}
-use Rattle.wg_typing.specs.Scope.{Context, Around, in_entry, in_plain, in_const, look}
+use Rattle.wg_typing.specs.Conversions.{Numbers, Operation, numbers, of_value_type, truth_type, uint_type, is_number, class_of, suits, operation_on, common_numbers, size_of}
+use Rattle.wg_typing.specs.Scope.{Context, Around, in_entry, in_plain, in_const, in_attribute, look}
 use Rattle.wg_typing.specs.Layers.{Layer, FormLayer, member, method, index, LinkLayer, Part, TypedPart, typed_part}
 use Rattle.wg_typing.specs.TypingObjects.{Method, method_of, takes, argument_types, has_elements}
 use Rattle.wg_typing.specs.TypingObjects as m
 use Rattle.wg_typing.specs.TypingCallee.{callee}
-use Rattle.wg_typing.specs.TypingForms.{Along, at_typed, at_other, begun, over_forms}
-use Rattle.wg_typing.specs.TypingOperators.{over_links, typed_of}
+use Rattle.wg_typing.specs.TypingForms.{Along, at_typed, at_other}
 use Rattle.wg_typing.specs.Sites.{at_if}
 use Rattle.wg_typing.specs.RulesShared.{where_typed, failing, each_failing, unfit, unfit_all}
 use Rattle.wg_typing.specs.TypingActs.{is_plain_act}
@@ -25,6 +24,7 @@ use Rattle.wg_typing.specs.declared.scope.Meant.{Meant}
 use Rattle.wg_typing.specs.declared.scope.Meant.TheVariants as meant
 use Rattle.wg_typing.specs.declared.scope.Object.{Object}
 use Rattle.wg_typing.specs.declared.scope.Value.TheVariants as value
+use Rattle.wg_typing.specs.TypingConstructor.{makes}
 
 -- a vector's name in a `const`
 abbrev pub vector_constant : Option Meant → Bool
@@ -43,7 +43,8 @@ vector_constant None = false
 abbrev pub unfit_name : Around → Named → Option Meant → List Place
 unfit_name (in_entry lanes) name m = []
 unfit_name in_plain name m = []
-unfit_name (in_const allowed) name m = at_if (not (is_among allowed name.name) && vector_constant m) name.place
+unfit_name in_const name m = at_if (vector_constant m) name.place
+unfit_name (in_attribute allowed) name m = at_if (not (is_among allowed name.name) && vector_constant m) name.place
 
 -- two operands of an operator: each that does not suit, else the whole where they do not fit together
 abbrev pub clash : Place → Bool → Bool → Place → Place → Option Operation → List Place
@@ -111,16 +112,16 @@ unfit_form place (at_other (value.Act name a)) f = at_if (is_plain_act a) place
 unfit_form place (at_other (value.Text bytes)) f = place ∷ []
 
 abbrev pub unfit_in : Context → Place → Layer Part → List Place
-unfit_in c place (Expr-F.Number at n unsigned) = []
+unfit_in c place (Expr-F.Number at n unsigned long) = []
 unfit_in c place (Expr-F.Text at bytes) = []
 unfit_in c place (Expr-F.Truth at b) = []
 unfit_in c place (Expr-F.Name name) = unfit_name c.around name (look name.name c.names)
 unfit_in c place (Expr-F.Call name parts) = unfit_call c name.place (callee c name) parts
-unfit_in c place (Expr-F.Construct at of parts) = where_typed parts (each_failing (λ t. is_number t.of) parts)
+unfit_in c place (Expr-F.Construct at of parts) = where_typed parts (each_failing (λ t. makes (size_of of) t.of) parts)
 unfit_in c place (Expr-F.Bracket at inner) = []
 unfit_in c place (Expr-F.Prefix at operator operand) = failing (λ t. is_number t.of) (typed_part operand)
 unfit_in c place (Expr-F.Cast at to operand) = unfit (of_value_type to) operand
 unfit_in c place (Expr-F.Zeros at of) = []
-unfit_in c place (Expr-F.Postfix first forms) = over_forms c place (unfit_form place) (begun first) forms
-unfit_in c place (Expr-F.Chain first rest) = over_links (unfit_link place) (typed_of first) rest
+unfit_in c place (Expr-F.Postfix first forms) = []
+unfit_in c place (Expr-F.Chain first rest) = []
 unfit_in c place (Expr-F.Choice test a b) = where_typed (test ∷ a ∷ b ∷ []) (unfit truth_type test ++ unfit_choice place (typed_part a) (typed_part b))

@@ -7,13 +7,13 @@ use Rattle.wg_typing.specs.TypingInterlocked.{Operands, operands, is_fixed, is_m
 use Rattle.wg_typing.specs.TypingObjects.{Method, method_of}
 use Rattle.wg_typing.specs.TypingObjects as m
 use Rattle.wg_typing.specs.TypingCallee.{CalledName, plain, entry, itself, builtin, broken, unknown, Builtin, on_numbers, interlocked, levels, barrier, barrier_of, callee}
-use Rattle.wg_typing.specs.TypingForms.{Along, at_typed, at_other, begun, over_forms}
+use Rattle.wg_typing.specs.TypingForms.{Along, at_typed, at_other}
 use Rattle.wg_typing.specs.TypingExpr.{part}
 use Rattle.wg_typing.specs.Sites.{at_if}
 use Rattle.wg_typing.specs.RulesShared.{where_typed, failing, maybe_failing}
 use Rattle.wg_typing.specs.TypingActs.{is_plain_act}
-use Rattle.wg_typing.specs.Site.{Site, AtExpr, AtFlag, AtWanted, AtConst, AtStep, AtHandle, AtReturn, AtJump, AtType, AtName, AtSize, AtLocal, AtLimit, AtObject, AtFunction}
-use Rattle.wg_typing.specs.RulesMismatchCall.{is_given_back, same_length}
+use Rattle.wg_typing.specs.Site.{Site, AtExpr, AtValue, AtForm, AtLink, AtFlag, AtWanted, AtStart, AtConst, AtStep, AtHandle, AtReturn, AtJump, AtType, AtName, AtSize, AtLocal, AtLimit, AtObject, AtFunction}
+use Rattle.wg_typing.specs.RulesMismatchCall.{same_length}
 use Rattle.wg_tree.specs.declared.expr.Expr.TheOpen.{Expr-F}
 use Rattle.wg_tree.specs.declared.stmt.Step.{Step}
 use Rattle.wg_tree.specs.declared.stmt.Step.TheVariants as step
@@ -22,6 +22,7 @@ use Rattle.wg_typing.specs.declared.scope.Object.{Object}
 use Rattle.wg_typing.specs.declared.scope.FormalParameter.{FormalParameter}
 use Rattle.wg_typing.specs.declared.scope.Value.{Value}
 use Rattle.wg_typing.specs.declared.scope.Value.TheVariants as value
+use Rattle.wg_typing.specs.TypingFunctionCall.{is_given_back}
 
 abbrev pub can_change : TypedPart → Bool
 can_change t = not (is_fixed t.standing)
@@ -75,6 +76,7 @@ fixed_method parts (Some (m.request group)) = []
 fixed_method parts (Some (m.increment group)) = []
 fixed_method parts (Some m.is_valid) = []
 fixed_method parts (Some m.complete) = []
+fixed_method parts (Some m.finished) = []
 fixed_method parts None = []
 
 abbrev pub fixed_after_object : Object → FormLayer Part → List Place
@@ -90,7 +92,7 @@ fixed_form (at_other (value.Act name a)) f = []
 fixed_form (at_other (value.Text bytes)) f = []
 
 abbrev pub fixed_in : Context → Place → Layer Part → List Place
-fixed_in c place (Expr-F.Number at n unsigned) = []
+fixed_in c place (Expr-F.Number at n unsigned long) = []
 fixed_in c place (Expr-F.Text at bytes) = []
 fixed_in c place (Expr-F.Truth at b) = []
 fixed_in c place (Expr-F.Name name) = []
@@ -100,7 +102,7 @@ fixed_in c place (Expr-F.Bracket at inner) = []
 fixed_in c place (Expr-F.Prefix at operator operand) = []
 fixed_in c place (Expr-F.Cast at to operand) = []
 fixed_in c place (Expr-F.Zeros at of) = []
-fixed_in c place (Expr-F.Postfix first forms) = over_forms c place fixed_form (begun first) forms
+fixed_in c place (Expr-F.Postfix first forms) = []
 fixed_in c place (Expr-F.Chain first rest) = []
 fixed_in c place (Expr-F.Choice test a b) = []
 
@@ -123,8 +125,12 @@ fixed_step c (step.After target operator place) = fixed_part (part c target)
 
 abbrev pub not_assignable : Site → List Place
 not_assignable (AtExpr c place layer) = fixed_in c place layer
-not_assignable (AtFlag v) = []
+not_assignable (AtValue around p) = []
+not_assignable (AtForm c place a f) = fixed_form a f
+not_assignable (AtLink place before l) = []
+not_assignable (AtFlag call) = []
 not_assignable (AtWanted c goal e) = []
+not_assignable (AtStart c goal e) = []
 not_assignable (AtConst c e) = []
 not_assignable (AtStep c header s) = fixed_step c s
 not_assignable (AtHandle c of name number e) = []
@@ -132,8 +138,8 @@ not_assignable (AtReturn c place e) = []
 not_assignable (AtJump c place) = []
 not_assignable (AtType c of) = []
 not_assignable (AtName scope name) = []
-not_assignable (AtSize name v) = []
+not_assignable (AtSize name place v) = []
 not_assignable (AtLocal name words) = []
 not_assignable (AtLimit name amount limit) = []
 not_assignable (AtObject allowed of record_type) = []
-not_assignable (AtFunction name around has_result events) = []
+not_assignable (AtFunction name around u has_result events) = []

@@ -3,7 +3,7 @@ use Rattle.std.specs.Prelude.{List, [], ◌∷◌}
 use Rattle.wg_words.specs.declared.place.Place.{Place}
 use Rattle.wg_typing.specs.TypingCallee.{CalledName, plain, entry, itself, builtin, broken, unknown, callee}
 use Rattle.wg_typing.specs.RulesShared.{of_call}
-use Rattle.wg_typing.specs.Site.{Site, AtExpr, AtFlag, AtWanted, AtConst, AtStep, AtHandle, AtReturn, AtJump, AtType, AtName, AtSize, AtLocal, AtLimit, AtObject, AtFunction}
+use Rattle.wg_typing.specs.Site.{Site, AtExpr, AtValue, AtForm, AtLink, AtFlag, AtWanted, AtStart, AtConst, AtStep, AtHandle, AtReturn, AtJump, AtType, AtName, AtSize, AtLocal, AtLimit, AtObject, AtFunction}
 
 abbrev pub itself_called : Place → CalledName → List Place
 itself_called name (plain number result parameters chain) = []
@@ -15,8 +15,12 @@ itself_called name unknown = []
 
 abbrev pub recursion : Site → List Place
 recursion (AtExpr c place layer) = of_call (λ name parts. itself_called name.place (callee c name)) layer
-recursion (AtFlag v) = []
+recursion (AtValue around p) = []
+recursion (AtForm c place a f) = []
+recursion (AtLink place before l) = []
+recursion (AtFlag call) = []
 recursion (AtWanted c goal e) = []
+recursion (AtStart c goal e) = []
 recursion (AtConst c e) = []
 recursion (AtStep c header s) = []
 recursion (AtHandle c of name number e) = []
@@ -24,8 +28,8 @@ recursion (AtReturn c place e) = []
 recursion (AtJump c place) = []
 recursion (AtType c of) = []
 recursion (AtName scope name) = []
-recursion (AtSize name v) = []
+recursion (AtSize name place v) = []
 recursion (AtLocal name words) = []
 recursion (AtLimit name amount limit) = []
 recursion (AtObject allowed of record_type) = []
-recursion (AtFunction name around has_result events) = []
+recursion (AtFunction name around u has_result events) = []

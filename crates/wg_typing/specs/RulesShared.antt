@@ -2,15 +2,14 @@
 use Rattle.std.specs.Prelude.{◌==◌, Bool, true, false, not, ◌&&◌, if◌then◌else◌, is_some, List, [], ◌∷◌, ◌++◌, length, Option, Some, None}
 use Rattle.wg_words.specs.declared.place.Place.{Place}
 use Rattle.wg_typing.specs.Sites.{at_if}
-use Rattle.wg_typing.specs.Scope.{Context}
-use Rattle.wg_typing.specs.Layers.{Layer, FormLayer, member, method, index, LinkLayer, Part, typed_part, TypedPart}
+use Rattle.wg_typing.specs.Scope.{Context, Around, in_entry, in_plain, in_const, in_attribute}
+use Rattle.wg_typing.specs.Layers.{Layer, FormLayer, member, method, index, LinkLayer, Part, typed_part, TypedPart, call_of}
 use Rattle.wg_typing.specs.TypingCallee.{CalledName, plain, entry, itself, builtin, broken, unknown, on_numbers, interlocked, levels, barrier, barrier_of, callee}
-use Rattle.wg_typing.specs.TypingActs.{is_output_act, is_syncing, is_plain_act}
+use Rattle.wg_typing.specs.TypingActs.{is_plain_act, is_output, is_sync, called_at}
 use Rattle.wg_typing.specs.TypingBarrier.{any_broken, unknown_words, is_alone}
 use Rattle.wg_typing.specs.TypingForms.{Along, at_typed, at_other}
 use Rattle.wg_tree.specs.declared.expr.Named.{Named}
 use Rattle.wg_tree.specs.declared.expr.Expr.TheOpen.{Expr-F}
-use Rattle.wg_typing.specs.declared.scope.Act.{Act}
 use Rattle.wg_typing.specs.declared.scope.Value.{Value}
 use Rattle.wg_typing.specs.declared.scope.Value.TheVariants as value
 use Rattle.wg_typing.specs.Conversions.{fits}
@@ -29,7 +28,7 @@ where_typed parts places = if all_are_typed parts then places else []
 
 -- what a rule says of a call and its name; other expressions are no calls
 abbrev pub of_call : (Named → List Part → List Place) → Layer Part → List Place
-of_call rule (Expr-F.Number at n unsigned) = []
+of_call rule (Expr-F.Number at n unsigned long) = []
 of_call rule (Expr-F.Text at bytes) = []
 of_call rule (Expr-F.Truth at b) = []
 of_call rule (Expr-F.Name name) = []
@@ -73,7 +72,7 @@ argument_parts unknown parts = parts
 
 -- the parts of an expression that have to be values; brackets hand on what is in them, and an object may stand before forms
 abbrev pub value_parts : Context → Layer Part → List Part
-value_parts c (Expr-F.Number at n unsigned) = []
+value_parts c (Expr-F.Number at n unsigned long) = []
 value_parts c (Expr-F.Text at bytes) = []
 value_parts c (Expr-F.Truth at b) = []
 value_parts c (Expr-F.Name name) = []
@@ -97,22 +96,28 @@ no_value_at place (Some (value.Act name a)) = at_if (is_plain_act a) place
 no_value_at place (Some (value.Text bytes)) = place ∷ []
 no_value_at place None = []
 
--- an output call, or a syncing barrier, at its name
-abbrev pub act_at : (Act → Bool) → Option Value → List Place
-act_at test (Some (value.Typed of standing tree)) = []
-act_at test (Some (value.Object object)) = []
-act_at test (Some (value.Act name a)) = at_if (test a) name
-act_at test (Some (value.Text bytes)) = []
-act_at test None = []
-
 abbrev pub no_value : Part → List Place
 no_value p = no_value_at p.place p.value
 
+abbrev pub is_text : Option Value → Bool
+is_text (Some (value.Typed of standing tree)) = false
+is_text (Some (value.Object object)) = false
+is_text (Some (value.Act name a)) = false
+is_text (Some (value.Text bytes)) = true
+is_text None = false
+
+-- a string among the operands in an attribute's argument is told by the rules of attributes
+abbrev pub no_value_in : Around → Part → List Place
+no_value_in (in_entry lanes) p = no_value p
+no_value_in in_plain p = no_value p
+no_value_in in_const p = no_value p
+no_value_in (in_attribute allowed) p = if is_text p.value then [] else no_value p
+
 abbrev pub output_used : Part → List Place
-output_used p = act_at is_output_act p.value
+output_used p = called_at is_output (call_of p)
 
 abbrev pub sync_used : Part → List Place
-sync_used p = act_at is_syncing p.value
+sync_used p = called_at is_sync (call_of p)
 
 abbrev pub each_part : (Part → List Place) → List Part → List Place
 each_part rule [] = []

@@ -2,14 +2,14 @@
 use Rattle.std.specs.Prelude.{ℕ, Bool, true, false, not, ◌&&◌, is_none, List, [], ◌∷◌, map, Option, Some, None}
 use Rattle.wg_words.specs.declared.place.Place.{Place}
 use Rattle.wg_typing.specs.Named.{is_among}
-use Rattle.wg_typing.specs.Scope.{Context, Around, in_entry, in_plain, in_const, look}
+use Rattle.wg_typing.specs.Scope.{Context, Around, in_entry, in_plain, in_const, in_attribute, look}
 use Rattle.wg_typing.specs.Layers.{Layer, FormLayer, member, method, index, Part}
 use Rattle.wg_typing.specs.TypingObjects.{method_of}
 use Rattle.wg_typing.specs.TypingCallee.{CalledName, plain, entry, itself, builtin, broken, unknown, Builtin, on_numbers, interlocked, levels, barrier, barrier_of, callee}
-use Rattle.wg_typing.specs.TypingForms.{Along, at_typed, at_other, Reached, member_of, begun, over_forms}
+use Rattle.wg_typing.specs.TypingForms.{Along, at_typed, at_other, Reached, member_of}
 use Rattle.wg_typing.specs.Sites.{at_if}
 use Rattle.wg_typing.specs.RulesShared.{unknown_flags}
-use Rattle.wg_typing.specs.Site.{Site, AtExpr, AtFlag, AtWanted, AtConst, AtStep, AtHandle, AtReturn, AtJump, AtType, AtName, AtSize, AtLocal, AtLimit, AtObject, AtFunction}
+use Rattle.wg_typing.specs.Site.{Site, AtExpr, AtValue, AtForm, AtLink, AtFlag, AtWanted, AtStart, AtConst, AtStep, AtHandle, AtReturn, AtJump, AtType, AtName, AtSize, AtLocal, AtLimit, AtObject, AtFunction}
 use Rattle.wg_tree.specs.declared.expr.Named.{Named}
 use Rattle.wg_tree.specs.declared.expr.TypeName.{TypeName}
 use Rattle.wg_tree.specs.declared.expr.TypeName.TheVariants as type_name
@@ -61,7 +61,8 @@ is_no_struct None = true
 abbrev pub unknown_value : Around → List ℕ → Option Meant → Bool
 unknown_value (in_entry lanes) name m = is_no_value m
 unknown_value in_plain name m = is_no_value m
-unknown_value (in_const allowed) name m = not (is_among allowed name) && is_no_constant m
+unknown_value in_const name m = is_no_constant m
+unknown_value (in_attribute allowed) name m = not (is_among allowed name) && is_no_constant m
 
 abbrev pub places_of : List Named → List Place
 places_of names = map (λ (n : Named). n.place) names
@@ -99,7 +100,7 @@ unknown_form c (at_other (value.Act name act)) f = []
 unknown_form c (at_other (value.Text bytes)) f = []
 
 abbrev pub unknown_in : Context → Place → Layer Part → List Place
-unknown_in c place (Expr-F.Number at n unsigned) = []
+unknown_in c place (Expr-F.Number at n unsigned long) = []
 unknown_in c place (Expr-F.Text at bytes) = []
 unknown_in c place (Expr-F.Truth at b) = []
 unknown_in c place (Expr-F.Name name) = at_if (unknown_value c.around name.name (look name.name c.names)) name.place
@@ -109,7 +110,7 @@ unknown_in c place (Expr-F.Bracket at inner) = []
 unknown_in c place (Expr-F.Prefix at operator operand) = []
 unknown_in c place (Expr-F.Cast at to operand) = []
 unknown_in c place (Expr-F.Zeros at of) = at_if (is_no_struct (look of.name c.names)) of.place
-unknown_in c place (Expr-F.Postfix first forms) = over_forms c place (unknown_form c) (begun first) forms
+unknown_in c place (Expr-F.Postfix first forms) = []
 unknown_in c place (Expr-F.Chain first rest) = []
 unknown_in c place (Expr-F.Choice test a b) = []
 
@@ -119,8 +120,12 @@ unknown_type c (type_name.Struct name) = at_if (is_no_struct (look name.name c.n
 
 abbrev pub unknown_name : Site → List Place
 unknown_name (AtExpr c place layer) = unknown_in c place layer
-unknown_name (AtFlag v) = []
+unknown_name (AtValue around p) = []
+unknown_name (AtForm c place a f) = unknown_form c a f
+unknown_name (AtLink place before l) = []
+unknown_name (AtFlag call) = []
 unknown_name (AtWanted c goal e) = []
+unknown_name (AtStart c goal e) = []
 unknown_name (AtConst c e) = []
 unknown_name (AtStep c header s) = []
 unknown_name (AtHandle c of name number e) = []
@@ -128,8 +133,8 @@ unknown_name (AtReturn c place e) = []
 unknown_name (AtJump c place) = []
 unknown_name (AtType c of) = unknown_type c of
 unknown_name (AtName scope name) = []
-unknown_name (AtSize name v) = []
+unknown_name (AtSize name place v) = []
 unknown_name (AtLocal name words) = []
 unknown_name (AtLimit name amount limit) = []
 unknown_name (AtObject allowed of record_type) = []
-unknown_name (AtFunction name around has_result events) = []
+unknown_name (AtFunction name around u has_result events) = []

@@ -10,10 +10,10 @@ use Rattle.wg_typing.specs.TypingObjects.{Method, method_of, takes}
 use Rattle.wg_typing.specs.TypingCallee.{CalledName, plain, entry, itself, builtin, broken, unknown, Builtin, on_numbers, interlocked, levels, barrier, barrier_of, callee}
 use Rattle.wg_typing.specs.TypingIntrinsic.{arity_of, all_numbers}
 use Rattle.wg_typing.specs.TypingConstructor.{component_count, components}
-use Rattle.wg_typing.specs.TypingForms.{Along, at_typed, at_other, begun, over_forms}
+use Rattle.wg_typing.specs.TypingForms.{Along, at_typed, at_other}
 use Rattle.wg_typing.specs.Sites.{at_if}
 use Rattle.wg_typing.specs.RulesShared.{where_typed, all_pieces_whole}
-use Rattle.wg_typing.specs.Site.{Site, AtExpr, AtFlag, AtWanted, AtConst, AtStep, AtHandle, AtReturn, AtJump, AtType, AtName, AtSize, AtLocal, AtLimit, AtObject, AtFunction}
+use Rattle.wg_typing.specs.Site.{Site, AtExpr, AtValue, AtForm, AtLink, AtFlag, AtWanted, AtStart, AtConst, AtStep, AtHandle, AtReturn, AtJump, AtType, AtName, AtSize, AtLocal, AtLimit, AtObject, AtFunction}
 use Rattle.wg_typing.specs.RulesMismatchCall.{same_length}
 use Rattle.wg_tree.specs.declared.expr.Expr.TheOpen.{Expr-F}
 use Rattle.wg_typed.specs.declared.typed_stmt.InterlockedForm.{InterlockedForm}
@@ -64,7 +64,7 @@ miscounted_form (at_other (value.Act name a)) f = []
 miscounted_form (at_other (value.Text bytes)) f = []
 
 abbrev pub miscounted_in : Context → Place → Layer Part → List Place
-miscounted_in c place (Expr-F.Number at n unsigned) = []
+miscounted_in c place (Expr-F.Number at n unsigned long) = []
 miscounted_in c place (Expr-F.Text at bytes) = []
 miscounted_in c place (Expr-F.Truth at b) = []
 miscounted_in c place (Expr-F.Name name) = []
@@ -74,14 +74,18 @@ miscounted_in c place (Expr-F.Bracket at inner) = []
 miscounted_in c place (Expr-F.Prefix at operator operand) = []
 miscounted_in c place (Expr-F.Cast at to operand) = []
 miscounted_in c place (Expr-F.Zeros at of) = []
-miscounted_in c place (Expr-F.Postfix first forms) = over_forms c place miscounted_form (begun first) forms
+miscounted_in c place (Expr-F.Postfix first forms) = []
 miscounted_in c place (Expr-F.Chain first rest) = []
 miscounted_in c place (Expr-F.Choice test a b) = []
 
 abbrev pub wrong_arity : Site → List Place
 wrong_arity (AtExpr c place layer) = miscounted_in c place layer
-wrong_arity (AtFlag v) = []
+wrong_arity (AtValue around p) = []
+wrong_arity (AtForm c place a f) = miscounted_form a f
+wrong_arity (AtLink place before l) = []
+wrong_arity (AtFlag call) = []
 wrong_arity (AtWanted c goal e) = []
+wrong_arity (AtStart c goal e) = []
 wrong_arity (AtConst c e) = []
 wrong_arity (AtStep c header s) = []
 wrong_arity (AtHandle c of name number e) = []
@@ -89,8 +93,8 @@ wrong_arity (AtReturn c place e) = []
 wrong_arity (AtJump c place) = []
 wrong_arity (AtType c of) = []
 wrong_arity (AtName scope name) = []
-wrong_arity (AtSize name v) = []
+wrong_arity (AtSize name place v) = []
 wrong_arity (AtLocal name words) = []
 wrong_arity (AtLimit name amount limit) = []
 wrong_arity (AtObject allowed of record_type) = []
-wrong_arity (AtFunction name around has_result events) = []
+wrong_arity (AtFunction name around u has_result events) = []

@@ -1,6 +1,6 @@
 -- Names in scope, and the context in which a statement or an expression stands (HLSL Shader Model 6.8, scopes; which constructs
 -- open a scope is own).
-use Rattle.std.specs.Prelude.{ℕ, Bool, true, false, not, nat_lt, if◌then◌else◌, List, [], ◌∷◌, ◌++◌, length, map, drop, Option, Some, None}
+use Rattle.std.specs.Prelude.{ℕ, Bool, true, if◌then◌else◌, List, [], ◌∷◌, ◌++◌, length, map, drop, Option, Some, None}
 use Rattle.std.specs.Option.{option_or}
 use Rattle.std.specs.Str.{bytes_eq}
 use Rattle.wg_typing.specs.Maybe.{where_true}
@@ -17,6 +17,8 @@ use Rattle.wg_typed.specs.declared.typed.TypedHandle.{TypedHandle}
 use Rattle.wg_typing.specs.declared.scope.Declared.{Declared}
 use Rattle.wg_typing.specs.declared.scope.Meant.{Meant}
 use Rattle.wg_typing.specs.declared.scope.Meant.TheVariants as meant
+use Rattle.wg_typing.specs.Named.{is_among}
+use Rattle.wg_typed.specs.declared.typed_expr.TypedExpr.{TypedExpr}
 
 -- ---- names
 
@@ -60,12 +62,13 @@ named_type names (type_name.Struct name) = struct_if (look name.name names)
 
 -- ---- contexts
 
--- Where an expression stands: in an entry function of so many lanes, in a plain function, or in a `const`, in which names of
--- these may stand without a value.
+-- Where an expression stands: in an entry function of so many lanes, in a plain function, in a `const`, or in the arguments of an
+-- attribute, in which these names may stand without a value.
 pub data Around : Type 0 where
   in_entry : ℕ → Around
   in_plain : Around
-  in_const : List (List ℕ) → Around
+  in_const : Around
+  in_attribute : List (List ℕ) → Around
 
 -- what a function gives back: nothing, a value of a type, or one of a type that is broken
 pub data GivesBack : Type 0 where
@@ -73,9 +76,15 @@ pub data GivesBack : Type 0 where
   a_value : TypeTree → GivesBack
   unsure : GivesBack
 
+-- a local: its type, whether it is `const`, and its start value, where it has one in which no rule is broken
+pub record LocalForm : Type 0 where
+  pub of : TypeTree
+  pub constant : Bool
+  pub value : Option TypedExpr
+
 -- Where a statement stands: the names in scope, of which the first so many belong to the scopes around; the structs by number;
--- the function around, the names of its parameters, and what it gives back; whether it is a direct statement of the function's body, and whether it is in the
--- body of a loop; and the types of the locals and the handles that were declared before it in the function, by number. A handle
+-- the function around, the names of its parameters, and what it gives back; whether it is in the body of a loop; and the locals and
+-- the handles that were declared before it in the function, by number. A handle
 -- whose request is broken has no typed form.
 pub record Context : Type 0 where
   pub names : List Declared
@@ -84,9 +93,8 @@ pub record Context : Type 0 where
   pub around : Around
   pub parameters : List (List ℕ)
   pub returns : GivesBack
-  pub direct : Bool
   pub looped : Bool
-  pub locals : List TypeTree
+  pub locals : List LocalForm
   pub handles : List (Option TypedHandle)
 
 abbrev pub name_bytes : Declared → List ℕ
@@ -101,29 +109,27 @@ own_names c = map name_bytes (own c)
 
 -- a scope within
 abbrev pub enter : Context → Context
-enter c = record c { start = length c.names; direct = false }
+enter c = record c { start = length c.names }
 
 -- a scope within that is the body of a loop
 abbrev pub enter_loop : Context → Context
-enter_loop c = record c { start = length c.names; direct = false; looped = true }
+enter_loop c = record c { start = length c.names; looped = true }
 
 -- after a scope within: its names are gone, its locals and handles keep their numbers
 abbrev pub leave : Context → Context → Context
 leave outer inner = record outer { locals = inner.locals; handles = inner.handles }
 
+-- Of two declarations of one name in a scope the first counts, and the second declares nothing: what a declaration leaves.
+abbrev pub once : Named → Context → Context → Context
+once name c declared = if is_among (own_names c) name.name then c else declared
+
 abbrev pub declare : Named → Meant → Context → Context
 declare name m c = record c { names = c.names ++ record { name = name; meant = m } ∷ [] }
 
 -- the same place, in a `const`
-abbrev pub as_const : List (List ℕ) → Context → Context
-as_const allowed c = record c { around = in_const allowed }
+abbrev pub as_const : Context → Context
+as_const c = record c { around = in_const }
 
--- whether a collective statement may stand there (own): of several lanes a direct statement of the entry function's body, of
--- one lane any statement outside a loop
-abbrev pub takes_collective : Around → Bool → Bool → Bool
-takes_collective (in_entry lanes) direct looped = if nat_lt 1 lanes then direct else not looped
-takes_collective in_plain direct looped = false
-takes_collective (in_const allowed) direct looped = false
-
-abbrev pub collective_here : Context → Bool
-collective_here c = takes_collective c.around c.direct c.looped
+-- the same place, in an attribute, where these names may stand
+abbrev pub as_attribute : List (List ℕ) → Context → Context
+as_attribute allowed c = record c { around = in_attribute allowed }

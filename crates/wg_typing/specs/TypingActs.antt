@@ -1,24 +1,66 @@
--- The kinds of calls without a value: output calls, barriers that sync, and others. Own.
-use Rattle.std.specs.Prelude.{Bool, true, false, not, ◌||◌}
+-- The kinds of calls without a value, by what they do and by their names. Own.
+use Rattle.std.specs.Prelude.{ℕ, Bool, true, false, is_none, List, [], Option, Some, None}
+use Rattle.wg_words.specs.declared.place.Place.{Place}
+use Rattle.wg_typing.specs.Sites.{at_if}
 use Rattle.wg_typing.specs.declared.scope.Act.{Act}
 use Rattle.wg_typing.specs.declared.scope.Act.TheVariants as act
+use Rattle.wg_typing.specs.declared.scope.Value.{Value}
+use Rattle.wg_typing.specs.declared.scope.Value.TheVariants as value
 
--- an output call
-abbrev pub is_output_act : Act → Bool
-is_output_act (act.Step s) = false
-is_output_act (act.Barrier syncs) = false
-is_output_act (act.Request group output number element amount) = true
-is_output_act (act.Increment group output element amount) = true
-is_output_act (act.Complete handle) = true
+-- an output call, `FinishedCrossGroupSharing` on a record that is tracked or not, or a barrier that syncs
+pub data CallKind : Type 0 where
+  requests : CallKind
+  increments : CallKind
+  completes : ℕ → CallKind
+  finishes : Bool → CallKind
+  syncs : CallKind
 
--- a barrier that syncs
-abbrev pub is_syncing : Act → Bool
-is_syncing (act.Step s) = false
-is_syncing (act.Barrier syncs) = syncs
-is_syncing (act.Request group output number element amount) = false
-is_syncing (act.Increment group output element amount) = false
-is_syncing (act.Complete handle) = false
+abbrev pub is_sync : CallKind → Bool
+is_sync requests = false
+is_sync increments = false
+is_sync (completes handle) = false
+is_sync (finishes tracked) = false
+is_sync syncs = true
 
--- a call without a value that is neither
+-- what is no barrier is told by one rule
+abbrev pub is_output : CallKind → Bool
+is_output requests = true
+is_output increments = true
+is_output (completes handle) = true
+is_output (finishes tracked) = true
+is_output syncs = false
+
+-- none of these kinds: a plain step, or a barrier that does not sync
+abbrev pub act_kind : Act → Option CallKind
+act_kind (act.Step s) = None
+act_kind (act.Barrier true) = Some syncs
+act_kind (act.Barrier false) = None
+act_kind (act.Request group output number element amount) = Some requests
+act_kind (act.Increment group output element amount) = Some increments
+act_kind (act.Complete handle) = Some (completes handle)
+act_kind (act.Finished tracked) = Some (finishes tracked)
+
 abbrev pub is_plain_act : Act → Bool
-is_plain_act a = not (is_output_act a || is_syncing a)
+is_plain_act a = is_none (act_kind a)
+
+-- such a call, at its name
+pub record NamedCall : Type 0 where
+  pub name : Place
+  pub kind : CallKind
+
+abbrev pub named_call : Place → Option CallKind → Option NamedCall
+named_call name None = None
+named_call name (Some kind) = Some (record { name = name; kind = kind })
+
+-- The call that an expression is: by its value, and where a rule is broken in its arguments by its name.
+abbrev pub call_in : Option Value → Option NamedCall → Option NamedCall
+call_in (Some (value.Typed of standing tree)) by_name = None
+call_in (Some (value.Object object)) by_name = None
+call_in (Some (value.Act name a)) by_name = named_call name (act_kind a)
+call_in (Some (value.Text bytes)) by_name = None
+call_in None by_name = by_name
+
+-- the place of a call of a kind
+abbrev pub called_at : (CallKind → Bool) → Option NamedCall → List Place
+called_at test None = []
+called_at test (Some call) = at_if (test call.kind) call.name

@@ -3,7 +3,7 @@ use Rattle.std.specs.Prelude.{ℕ, suc, if◌then◌else◌, List, [], ◌∷◌
 use Rattle.std.specs.Str.{bytes_eq}
 use Rattle.wg_typing.specs.Named.{is_called}
 use Rattle.wg_typed.specs.Constants.{const_value}
-use Rattle.wg_typing.specs.Scope.{Context, as_const, known_names}
+use Rattle.wg_typing.specs.Scope.{Context, as_attribute, known_names}
 use Rattle.wg_typing.specs.Sites.{Sites, nowhere, ◌&◌}
 use Rattle.wg_typing.specs.Site.{Site}
 use Rattle.wg_typing.specs.TypingExpr.{Alone, a_text, a_name, neither, expr_form, part, sites_of}
@@ -42,8 +42,8 @@ alone_value allowed neither v = number_if v
 
 abbrev pub argument_of : Context → List (List ℕ) → Expr → TypedArgument
 argument_of c allowed e = record {
-  place = (part (as_const allowed c) e).place;
-  value = alone_value allowed (expr_form (as_const allowed c) e).alone (const_value (known_names c.names) e);
+  place = (part (as_attribute allowed c) e).place;
+  value = alone_value allowed (expr_form (as_attribute allowed c) e).alone (const_value (known_names c.names) e);
 }
 
 -- an attribute with its evaluated arguments
@@ -59,4 +59,4 @@ arguments_sites c (e ∷ rest) = sites_of c e & arguments_sites c rest
 
 abbrev pub attribute_sites : Context → List Attribute → Sites Site
 attribute_sites c [] = nowhere
-attribute_sites c (a ∷ rest) = arguments_sites (as_const (allowed_in c a) c) a.arguments & attribute_sites c rest
+attribute_sites c (a ∷ rest) = arguments_sites (as_attribute (allowed_in c a) c) a.arguments & attribute_sites c rest

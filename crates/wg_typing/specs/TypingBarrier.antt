@@ -5,8 +5,8 @@ use Rattle.wg_words.specs.declared.place.Place.{Place}
 use Rattle.wg_typing.specs.Maybe.{◌>>=◌, where_true}
 use Rattle.wg_typing.specs.Named.{at_name}
 use Rattle.wg_typing.specs.Conversions.{uint_type}
-use Rattle.wg_typing.specs.Scope.{Context, Around, in_entry, in_plain, in_const, look}
-use Rattle.wg_typing.specs.Layers.{Part, Piece, word, zero_word, other, fixed, act}
+use Rattle.wg_typing.specs.Scope.{Context, Around, in_entry, in_plain, in_const, in_attribute, look}
+use Rattle.wg_typing.specs.Layers.{Part, Piece, word, zero_word, other, fixed, act, misused}
 use Rattle.wg_tree.specs.declared.expr.Named.{Named}
 use Rattle.wg_typed.specs.declared.typed_expr.TypedKind.TheVariants as tree
 use Rattle.wg_typing.specs.declared.scope.Meant.{Meant}
@@ -42,7 +42,7 @@ flag_word None s = scope_if s
 
 abbrev pub ordered_object : Object → Flag
 ordered_object (object.Buffer buffer of) = no_flag
-ordered_object (object.Input many record_type standing) = an_object
+ordered_object (object.Input many record_type standing sharing) = an_object
 ordered_object (object.Output output array record_type element) = no_flag
 ordered_object (object.Handle handle record_type) = an_object
 
@@ -74,6 +74,7 @@ unknown_words c with_object [] = []
 unknown_words c with_object (word name ∷ rest) = (if is_unknown with_object (flag c name) then name ∷ [] else []) ++ unknown_words c with_object rest
 unknown_words c with_object (zero_word ∷ rest) = unknown_words c with_object rest
 unknown_words c with_object (other whole ∷ rest) = unknown_words c with_object rest
+unknown_words c with_object (misused ∷ rest) = unknown_words c with_object rest
 
 -- an input or a handle stands alone
 abbrev pub is_alone : List Piece → Bool
@@ -98,6 +99,7 @@ abbrev pub piece_broken : Context → Piece → Bool
 piece_broken c (word name) = is_broken_flag (flag c name)
 piece_broken c zero_word = false
 piece_broken c (other whole) = not whole
+piece_broken c misused = false
 
 abbrev pub any_broken : Context → List Piece → Bool
 any_broken c [] = false
@@ -115,6 +117,7 @@ all_memory c [] = true
 all_memory c (word name ∷ rest) = is_memory_flag (flag c name) && all_memory c rest
 all_memory c (zero_word ∷ rest) = false
 all_memory c (other whole ∷ rest) = false
+all_memory c (misused ∷ rest) = false
 
 -- the first argument: an input or a handle, or flags of memory
 abbrev pub orders : Context → List Piece → Bool
@@ -128,6 +131,46 @@ scope_of an_object = None
 scope_of broken_flag = None
 scope_of no_flag = None
 
+-- a flag of a barrier
+abbrev pub is_flag : Flag → Bool
+is_flag memory = true
+is_flag (scope syncs) = true
+is_flag an_object = false
+is_flag broken_flag = false
+is_flag no_flag = false
+
+abbrev pub piece_is_flag : Context → Piece → Bool
+piece_is_flag c (word name) = is_flag (flag c name)
+piece_is_flag c zero_word = false
+piece_is_flag c (other whole) = false
+piece_is_flag c misused = false
+
+abbrev pub any_flag : Context → List Piece → Bool
+any_flag c [] = false
+any_flag c (p ∷ rest) = piece_is_flag c p || any_flag c rest
+
+abbrev pub is_sync_flag : Flag → Bool
+is_sync_flag memory = false
+is_sync_flag (scope syncs) = syncs
+is_sync_flag an_object = false
+is_sync_flag broken_flag = false
+is_sync_flag no_flag = false
+
+abbrev pub piece_syncs : Context → Piece → Bool
+piece_syncs c (word name) = is_sync_flag (flag c name)
+piece_syncs c zero_word = false
+piece_syncs c (other whole) = false
+piece_syncs c misused = false
+
+abbrev pub any_syncs : Context → List Piece → Bool
+any_syncs c [] = false
+any_syncs c (p ∷ rest) = piece_syncs c p || any_syncs c rest
+
+-- A barrier syncs where one of its flags is `GROUP_SYNC`, also beside a broken one.
+abbrev pub names_sync : Context → List Part → Bool
+names_sync c [] = false
+names_sync c (p ∷ parts) = any_syncs c p.pieces || names_sync c parts
+
 -- whether flags of the second argument sync; none where they are not all such flags
 abbrev pub scopes : Context → List Piece → Option Bool
 scopes c [] = Some false
@@ -137,6 +180,7 @@ scopes c (word name ∷ rest) = do
   Some (first || others)
 scopes c (zero_word ∷ rest) = None
 scopes c (other whole ∷ rest) = None
+scopes c (misused ∷ rest) = None
 
 -- the second argument: 0, or flags of scope
 abbrev pub syncs_of : Context → List Piece → Option Bool
@@ -151,7 +195,8 @@ barrier_value c name _ = None
 abbrev pub outside_plain : Around → Option Value → Option Value
 outside_plain (in_entry lanes) v = v
 outside_plain in_plain v = None
-outside_plain (in_const allowed) v = v
+outside_plain in_const v = v
+outside_plain (in_attribute allowed) v = v
 
 abbrev pub plain_barrier : Place → Bool → List Part → Option Value
 plain_barrier name syncs [] = act name (act_of.Barrier syncs)

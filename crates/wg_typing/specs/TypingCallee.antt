@@ -2,7 +2,7 @@
 use Rattle.std.specs.Prelude.{ℕ, Bool, true, false, List, [], ◌∷◌, ◌++◌, Option, Some, None}
 use Prim.Native.String.{String}
 use Rattle.wg_typing.specs.Named.{at_name}
-use Rattle.wg_typing.specs.Scope.{Context, Around, in_entry, in_plain, in_const, look}
+use Rattle.wg_typing.specs.Scope.{Context, Around, in_entry, in_plain, in_const, in_attribute, look}
 use Rattle.wg_typing.specs.TypingInterlocked.{interlocked_names}
 use Rattle.wg_tree.specs.declared.expr.Named.{Named}
 use Rattle.wg_typed.specs.declared.types.TypeTree.{TypeTree}
@@ -44,7 +44,8 @@ everywhere = as_builtins on_numbers intrinsics ++ (as_builtins interlocked inter
 abbrev pub builtins : Around → List (String × Builtin)
 builtins (in_entry lanes) = ("GetRemainingRecursionLevels", levels) ∷ everywhere
 builtins in_plain = everywhere
-builtins (in_const allowed) = everywhere
+builtins in_const = everywhere
+builtins (in_attribute allowed) = everywhere
 
 -- What a called name is. A declared name hides a call of the language.
 pub data CalledName : Type 0 where

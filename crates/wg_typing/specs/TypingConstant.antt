@@ -1,16 +1,13 @@
 -- Static constants (HLSL Shader Model 6.8; that their values are constants of the text is own).
-use Rattle.std.specs.Prelude.{ℕ, ◌==◌, not, if◌then◌else◌, [], ◌∷◌, replicate, Option, Some, None, unwrap_or}
+use Rattle.std.specs.Prelude.{replicate, Option, Some, None, unwrap_or}
 use Rattle.wg_typing.specs.Maybe.{◌>>=◌}
-use Rattle.wg_typing.specs.Conversions.{same_scalar}
-use Rattle.wg_typed.specs.Constants.{const_value}
+use Rattle.wg_typed.specs.Constants.{const_value, const_as, const_words, number_as}
 use Rattle.wg_typing.specs.Scope.{Context, as_const, known_names, named_type}
 use Rattle.wg_typing.specs.Layers.{fit}
 use Rattle.wg_typing.specs.TypingExpr.{part}
 use Rattle.wg_typing.specs.TypingDeclared.{const_sites}
 use Rattle.wg_typing.specs.Sites.{Sites, only, ◌&◌}
 use Rattle.wg_typing.specs.Site.{Site, AtType}
-use Rattle.wg_tree.specs.declared.expr.Scalar.{Scalar}
-use Rattle.wg_tree.specs.declared.expr.Scalar.TheVariants as scalar
 use Rattle.wg_tree.specs.declared.expr.Expr.{Expr}
 use Rattle.wg_tree.specs.declared.expr.TypeName.{TypeName}
 use Rattle.wg_typed.specs.declared.types.ConstValue.{ConstValue}
@@ -19,27 +16,17 @@ use Rattle.wg_typed.specs.declared.types.TypeTree.TheVariants as type
 use Rattle.wg_typing.specs.declared.scope.Meant.{Meant}
 use Rattle.wg_typing.specs.declared.scope.Meant.TheVariants as meant
 
--- a constant's word as one of a scalar
-abbrev pub word_as : Scalar → ConstValue → ℕ
-word_as scalar.Bool v = if v.value == 0 then 0 else 1
-word_as scalar.Int v = v.value
-word_as scalar.Uint v = v.value
-
--- `bool` counts as `int` where the name stands in a `const`
-abbrev pub value_as : Scalar → ConstValue → ConstValue
-value_as of v = record { value = word_as of v; signed = not (same_scalar of scalar.Uint) }
-
--- a scalar has a value, a vector is filled
+-- a scalar has a value, that of its type, a vector is filled
 abbrev pub constant_of : TypeTree → ConstValue → Option Meant
-constant_of (type.Scalar of) v = Some (meant.Constant (type.Scalar of) (word_as of v ∷ []) (Some (value_as of v)))
-constant_of (type.Vector of n) v = Some (meant.Constant (type.Vector of n) (replicate n (word_as of v)) None)
+constant_of (type.Scalar of) v = Some (meant.Constant (type.Scalar of) (const_words of v) (Some (const_as of v)))
+constant_of (type.Vector of n) v = Some (meant.Constant (type.Vector of n) (replicate n (number_as of v)) None)
 constant_of (type.Struct number) v = None
 constant_of (type.Array of n) v = None
 
 abbrev pub constant_type : Context → TypeName → Expr → Option Meant
 constant_type c of e = do
   goal ← named_type c.names of
-  tree ← fit goal (part (as_const [] c) e)
+  tree ← fit goal (part (as_const c) e)
   v ← const_value (known_names c.names) e
   constant_of goal v
 

@@ -1,39 +1,71 @@
 -- Declarations of locals (HLSL Shader Model 6.8, declarations).
-use Rattle.std.specs.Prelude.{Bool, List, [], ◌∷◌, ◌++◌, length, is_some, Option, Some, None}
-use Rattle.wg_typing.specs.Maybe.{◌>>=◌, if_there}
+use Rattle.std.specs.Prelude.{Bool, List, [], ◌∷◌, ◌++◌, length, is_some, Option, Some, None, if◌then◌else◌, ◌&&◌}
+use Rattle.wg_typing.specs.Maybe.{◌>>=◌, if_there, where_true}
 use Rattle.wg_typed.specs.Layout.{words_of}
-use Rattle.wg_typing.specs.Scope.{Context, own_names, declare, named_type}
+use Rattle.wg_typing.specs.Scope.{Context, own_names, declare, named_type, once}
 use Rattle.wg_typing.specs.Sites.{Sites, nowhere, only, ◌&◌}
-use Rattle.wg_typing.specs.Site.{Site, AtType, AtLocal}
-use Rattle.wg_typing.specs.TypingDeclared.{declared_type, wanted_there, fit_in, declared_sites}
+use Rattle.wg_typing.specs.Site.{Site, AtType, AtLocal, AtStart}
+use Rattle.wg_typing.specs.TypingDeclared.{declared_type, declared_sites}
 use Rattle.wg_tree.specs.declared.expr.Named.{Named}
 use Rattle.wg_tree.specs.declared.stmt.Declaration.{Declaration}
 use Rattle.wg_tree.specs.declared.stmt.Declarator.{Declarator}
 use Rattle.wg_typed.specs.declared.types.TypeTree.{TypeTree}
 use Rattle.wg_typed.specs.declared.typed_stmt.TypedDeclarator.{TypedDeclarator}
 use Rattle.wg_typing.specs.declared.scope.Meant.TheVariants as meant
+use Rattle.wg_typing.specs.Named.{is_among}
+use Rattle.wg_words.specs.declared.place.Place.{Place}
+use Rattle.wg_typing.specs.Conversions.{same_type, truth_type}
+use Rattle.wg_typing.specs.Layers.{tree_of, typed_at, convert}
+use Rattle.wg_typing.specs.TypingExpr.{part, sites_of}
+use Rattle.wg_tree.specs.declared.expr.Expr.{Expr}
+use Rattle.wg_typed.specs.declared.typed_expr.TypedExpr.{TypedExpr}
+use Rattle.wg_typed.specs.declared.typed_expr.TypedKind.TheVariants as tree
+use Rattle.wg_typing.specs.declared.scope.Act.TheVariants as act
+use Rattle.wg_typing.specs.declared.scope.Value.{Value}
+use Rattle.wg_typing.specs.declared.scope.Value.TheVariants as value
+
+-- ---- start values
+
+-- a value that converts; or whether the group is the record's last, as the start value of a `bool`
+abbrev pub start_in : TypeTree → Place → Option Value → Option TypedExpr
+start_in goal place (Some (value.Act name (act.Finished tracked))) = where_true (tracked && same_type goal truth_type) (tree_of place goal tree.Finished)
+start_in goal place v = typed_at place v >>= convert goal
+
+abbrev pub start_of : Context → TypeTree → Expr → Option TypedExpr
+start_of c goal e = start_in goal (part c e).place (part c e).value
+
+abbrev pub start_there : Context → Option TypeTree → Option Expr → Option TypedExpr
+start_there c goal e = goal >>= (λ goal. e >>= start_of c goal)
+
+abbrev pub start_sites_of : Context → Option TypeTree → Option Expr → Sites Site
+start_sites_of c goal None = nowhere
+start_sites_of c goal (Some e) = sites_of c e & only (AtStart c goal e)
+
+-- ---- locals
 
 -- a local of a type takes the next number
-abbrev pub with_local : Named → Bool → Option TypeTree → Context → Context
-with_local name constant None c = declare name meant.Broken c
-with_local name constant (Some of) c = record (declare name (meant.Local (length c.locals) of constant) c) { locals = c.locals ++ of ∷ [] }
+abbrev pub with_local : Named → Bool → Option TypeTree → Option TypedExpr → Context → Context
+with_local name constant None v c = declare name meant.Broken c
+with_local name constant (Some of) v c = record (declare name (meant.Local (length c.locals) of constant) c) {
+  locals = c.locals ++ record { of = of; constant = constant; value = v } ∷ [];
+}
 
 abbrev pub local_site : Context → Named → Option TypeTree → Sites Site
 local_site c name None = nowhere
-local_site c name (Some of) = only (AtLocal name (words_of c.structs of))
+local_site c name (Some of) = if is_among (own_names c) name.name then nowhere else only (AtLocal name (words_of c.structs of))
 
 -- a local is in scope after its own start value
 abbrev pub declarator_after : Bool → Option TypeTree → Declarator → Context → Context
-declarator_after constant of d c = with_local d.name constant (declared_type c of d.size) c
+declarator_after constant of d c = once d.name c (with_local d.name constant (declared_type c of d.size) (start_there c (declared_type c of d.size) d.value) c)
 
 abbrev pub declarator_sites : Option TypeTree → Declarator → Context → Sites Site
 declarator_sites of d c =
-    declared_sites c (own_names c) of d.name d.size & local_site c d.name (declared_type c of d.size) & wanted_there c (declared_type c of d.size) d.value
+    declared_sites c (own_names c) of d.name d.size & local_site c d.name (declared_type c of d.size) & start_sites_of c (declared_type c of d.size) d.value
 
 abbrev pub declarator_tree : Option TypeTree → Declarator → Context → Option TypedDeclarator
 declarator_tree of d c = do
   local ← declared_type c of d.size
-  start ← if_there (fit_in c local) d.value
+  start ← if_there (start_of c local) d.value
   Some (record { local = length c.locals; of = local; value = start })
 
 abbrev pub declarators_after : Bool → Option TypeTree → List Declarator → Context → Context

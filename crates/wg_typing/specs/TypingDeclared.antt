@@ -1,5 +1,5 @@
 -- Types that are declared, with their sizes and limits, and expressions that have to convert (HLSL Shader Model 6.8; the limits are own).
-use Rattle.std.specs.Prelude.{ℕ, nat_le, List, [], Option, Some, None}
+use Rattle.std.specs.Prelude.{ℕ, nat_le, List, Option, Some, None}
 use Rattle.wg_typing.specs.Maybe.{◌>>=◌, where_true}
 use Rattle.wg_typing.specs.Conversions.{uint_type, truth_type, element_of}
 use Rattle.wg_typed.specs.Layout.{words_of}
@@ -26,7 +26,7 @@ record_limit = 2048
 
 -- the value of a `const` in which no rule is broken
 abbrev pub size_value : Context → Expr → Option ConstValue
-size_value c e = typed_part (part (as_const [] c) e) >>= (λ t. const_value (known_names c.names) e)
+size_value c e = typed_part (part (as_const c) e) >>= (λ t. const_value (known_names c.names) e)
 
 -- an array of a type, where its size is at least 1
 abbrev pub array_of : TypeTree → ConstValue → Option TypeTree
@@ -51,10 +51,6 @@ limit_site c name (Some t) = only (AtLimit name (words_of c.structs t) type_limi
 abbrev pub wanted_sites : Context → Option TypeTree → Expr → Sites Site
 wanted_sites c goal e = sites_of c e & only (AtWanted c goal e)
 
-abbrev pub wanted_there : Context → Option TypeTree → Option Expr → Sites Site
-wanted_there c goal None = nowhere
-wanted_there c goal (Some e) = wanted_sites c goal e
-
 abbrev pub fit_in : Context → TypeTree → Expr → Option TypedExpr
 fit_in c goal e = fit goal (part c e)
 
@@ -64,12 +60,12 @@ condition_sites c e = wanted_sites c (Some truth_type) e
 
 -- a `const` of a type, in the context around it
 abbrev pub const_sites : Context → Option TypeTree → Expr → Sites Site
-const_sites c goal e = wanted_sites (as_const [] c) goal e & only (AtConst c e)
+const_sites c goal e = wanted_sites (as_const c) goal e & only (AtConst c e)
 
 -- the size of an array is a number
 abbrev pub size_sites : Context → Named → Option Expr → Sites Site
 size_sites c name None = nowhere
-size_sites c name (Some size) = const_sites c (Some uint_type) size & only (AtSize name (size_value c size))
+size_sites c name (Some size) = const_sites c (Some uint_type) size & only (AtSize name (part (as_const c) size).place (size_value c size))
 
 -- a name that is declared with a type and perhaps a size: the size, its bounds, and the name in its scope
 abbrev pub declared_sites : Context → List (List ℕ) → Option TypeTree → Named → Option Expr → Sites Site

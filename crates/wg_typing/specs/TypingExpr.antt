@@ -1,28 +1,31 @@
 -- The typed form of an expression, and its sites: a fold over one layer of the tree (HLSL Shader Model 6.8, expressions).
-use Rattle.std.specs.Prelude.{ℕ, if◌then◌else◌, List, map, Option, Some}
+use Rattle.std.specs.Prelude.{ℕ, if◌then◌else◌, List, [], ◌∷◌, map, Option, Some, None}
 use Rattle.wg_words.specs.declared.place.Place.{Place}
 use Rattle.wg_typing.specs.Maybe.{◌>>=◌}
 use Rattle.wg_typing.specs.Conversions.{numbers, of_value_type}
-use Rattle.wg_typing.specs.Scope.{Context, look}
-use Rattle.wg_typing.specs.Layers.{Layer, FormLayer, member, method, index, LinkLayer, map_layer, Part}
+use Rattle.wg_typing.specs.Scope.{Context, Around, look}
+use Rattle.wg_typing.specs.Layers.{Layer, FormLayer, member, method, index, LinkLayer, map_layer, Part, call_of, map_link}
 use Rattle.wg_typing.specs.TypingCallee.{CalledName, plain, entry, itself, builtin, broken, unknown, on_numbers, interlocked, levels, barrier, barrier_of, callee}
 use Rattle.wg_typing.specs.TypingCalls.{call_value}
 use Rattle.wg_typing.specs.TypingConstructor.{constructed}
 use Rattle.wg_typing.specs.Sites.{Sites, nowhere, only, ◌&◌, all_sites}
-use Rattle.wg_typing.specs.Site.{Site, AtExpr, AtFlag}
+use Rattle.wg_typing.specs.Site.{Site, AtExpr, AtValue, AtForm, AtLink, AtFlag}
 use Rattle.wg_typing.specs.TypingName.{number_value, truth_value, named_value}
-use Rattle.wg_typing.specs.TypingOperators.{prefix_value, cast_value, zeros_value, choice_value, chain_value}
-use Rattle.wg_typing.specs.TypingForms.{postfix_value}
-use Rattle.wg_typing.specs.TypingFlags.{all_or, layer_pieces}
+use Rattle.wg_typing.specs.TypingOperators.{typed_of, run_type, prefix_value, cast_value, zeros_value, choice_value, chain_value}
+use Rattle.wg_typing.specs.TypingForms.{Along, begun, form_on, postfix_value}
+use Rattle.wg_typing.specs.RulesShared.{value_parts}
+use Rattle.wg_typing.specs.TypingFlags.{layer_pieces, are_flags}
 use Rattle.wg_tree.specs.declared.expr.Named.{Named}
 use Rattle.wg_tree.specs.declared.expr.Expr.{Expr, fold-Expr}
 use Rattle.wg_tree.specs.declared.expr.Expr.TheOpen.{Expr-F, Form-F, Link-F}
+use Rattle.wg_typed.specs.declared.types.TypeTree.{TypeTree}
 use Rattle.wg_typing.specs.declared.scope.Value.{Value}
 use Rattle.wg_typing.specs.declared.scope.Value.TheVariants as value
+use Rattle.wg_typing.specs.TypingCalled.{layer_called}
 
 -- the typed form of an expression whose parts have these; none where a part has none or a rule is broken
 abbrev pub layer_value : Context → Place → Layer Part → Option Value
-layer_value c place (Expr-F.Number at n unsigned) = number_value place n unsigned
+layer_value c place (Expr-F.Number at n unsigned long) = number_value place n unsigned long
 layer_value c place (Expr-F.Text at bytes) = Some (value.Text bytes)
 layer_value c place (Expr-F.Truth at b) = truth_value place b
 layer_value c place (Expr-F.Name name) = named_value c.around name (look name.name c.names)
@@ -50,7 +53,7 @@ pub record ExprForm : Type 0 where
   pub alone : Alone
 
 abbrev pub first_token : Layer Part → Place
-first_token (Expr-F.Number at n unsigned) = at
+first_token (Expr-F.Number at n unsigned long) = at
 first_token (Expr-F.Text at bytes) = at
 first_token (Expr-F.Truth at b) = at
 first_token (Expr-F.Name name) = name.place
@@ -93,7 +96,7 @@ argument_sites unknown arguments = sites_of_all arguments
 
 -- the sites of the parts
 abbrev pub inner_sites : Context → Layer ExprForm → Sites Site
-inner_sites c (Expr-F.Number at n unsigned) = nowhere
+inner_sites c (Expr-F.Number at n unsigned long) = nowhere
 inner_sites c (Expr-F.Text at bytes) = nowhere
 inner_sites c (Expr-F.Truth at b) = nowhere
 inner_sites c (Expr-F.Name name) = nowhere
@@ -110,24 +113,27 @@ inner_sites c (Expr-F.Choice test a b) = test.sites & a.sites & b.sites
 abbrev pub link_flag_sites : LinkLayer ExprForm → Sites Site
 link_flag_sites l = l.operand.flag_sites
 
+abbrev pub part_of : ExprForm → Part
+part_of s = s.part
+
 -- the sites of an argument of a barrier: a flag and the number 0 have none, an expression that is no flag has its own
-abbrev pub flags_at : Sites Site → Layer ExprForm → Sites Site
-flags_at own (Expr-F.Number at n unsigned) = nowhere
-flags_at own (Expr-F.Text at bytes) = own
-flags_at own (Expr-F.Truth at b) = own
-flags_at own (Expr-F.Name name) = nowhere
-flags_at own (Expr-F.Call name arguments) = own
-flags_at own (Expr-F.Construct at of arguments) = own
-flags_at own (Expr-F.Bracket at inner) = inner.flag_sites
-flags_at own (Expr-F.Prefix at operator operand) = own
-flags_at own (Expr-F.Cast at to operand) = own
-flags_at own (Expr-F.Zeros at of) = own
-flags_at own (Expr-F.Postfix first forms) = own
-flags_at own (Expr-F.Chain first rest) = if all_or rest then first.flag_sites & all_sites (map link_flag_sites rest) else own
-flags_at own (Expr-F.Choice test a b) = own
+abbrev pub flags_at : Context → Sites Site → Layer ExprForm → Sites Site
+flags_at c own (Expr-F.Number at n unsigned long) = nowhere
+flags_at c own (Expr-F.Text at bytes) = own
+flags_at c own (Expr-F.Truth at b) = own
+flags_at c own (Expr-F.Name name) = nowhere
+flags_at c own (Expr-F.Call name arguments) = own
+flags_at c own (Expr-F.Construct at of arguments) = own
+flags_at c own (Expr-F.Bracket at inner) = inner.flag_sites
+flags_at c own (Expr-F.Prefix at operator operand) = own
+flags_at c own (Expr-F.Cast at to operand) = own
+flags_at c own (Expr-F.Zeros at of) = own
+flags_at c own (Expr-F.Postfix first forms) = own
+flags_at c own (Expr-F.Chain first rest) = if are_flags c first.part (map (map_link part_of) rest) then first.flag_sites & all_sites (map link_flag_sites rest) else own
+flags_at c own (Expr-F.Choice test a b) = own
 
 abbrev pub alone_of : {P : Type 0} → Layer P → Alone
-alone_of (Expr-F.Number at n unsigned) = neither
+alone_of (Expr-F.Number at n unsigned long) = neither
 alone_of (Expr-F.Text at bytes) = a_text bytes
 alone_of (Expr-F.Truth at b) = neither
 alone_of (Expr-F.Name name) = a_name name
@@ -141,29 +147,64 @@ alone_of (Expr-F.Postfix first forms) = neither
 alone_of (Expr-F.Chain first rest) = neither
 alone_of (Expr-F.Choice test a b) = neither
 
-abbrev pub part_of : ExprForm → Part
-part_of s = s.part
-
 -- the part that a layer makes, at its first token
 abbrev pub layer_part : Context → Layer Part → Part
 layer_part c layer = record {
   place = first_token layer;
   value = layer_value c (first_token layer) layer;
-  pieces = layer_pieces (layer_value c (first_token layer) layer) layer;
+  by_name = layer_called c (first_token layer) layer;
+  pieces = layer_pieces c (layer_value c (first_token layer) layer) layer;
 }
 
+-- each part that has to be a value
+abbrev pub values_at : Around → List Part → Sites Site
+values_at around [] = nowhere
+values_at around (p ∷ rest) = only (AtValue around p) & values_at around rest
+
+-- each form after a value, with what stands before it; of one after a broken one no rule says anything
+abbrev pub forms_at : Context → Place → Option Along → List (FormLayer Part) → Sites Site
+forms_at c place None forms = nowhere
+forms_at c place (Some a) [] = nowhere
+forms_at c place (Some a) (f ∷ rest) = only (AtForm c place a f) & forms_at c place (form_on c place a f) rest
+
+-- each operator of a chain, with the type of what stands before it; of one after a broken one no rule says anything
+abbrev pub links_at : Place → Option TypeTree → List (LinkLayer Part) → Sites Site
+links_at place None rest = nowhere
+links_at place (Some of) [] = nowhere
+links_at place (Some of) (l ∷ rest) = only (AtLink place of l) & links_at place (run_type of l) rest
+
+-- the sites between the parts of a layer
+abbrev pub steps_at : Context → Place → Layer Part → Sites Site
+steps_at c place (Expr-F.Number at n unsigned long) = nowhere
+steps_at c place (Expr-F.Text at bytes) = nowhere
+steps_at c place (Expr-F.Truth at b) = nowhere
+steps_at c place (Expr-F.Name name) = nowhere
+steps_at c place (Expr-F.Call name parts) = nowhere
+steps_at c place (Expr-F.Construct at of parts) = nowhere
+steps_at c place (Expr-F.Bracket at inner) = nowhere
+steps_at c place (Expr-F.Prefix at operator operand) = nowhere
+steps_at c place (Expr-F.Cast at to operand) = nowhere
+steps_at c place (Expr-F.Zeros at of) = nowhere
+steps_at c place (Expr-F.Postfix first forms) = forms_at c place (begun first) forms
+steps_at c place (Expr-F.Chain first rest) = links_at place (typed_of first) rest
+steps_at c place (Expr-F.Choice test a b) = nowhere
+
+-- a layer's own sites
+abbrev pub own_sites : Context → Layer Part → Sites Site
+own_sites c layer = values_at c.around (value_parts c layer) & steps_at c (first_token layer) layer & only (AtExpr c (first_token layer) layer)
+
 abbrev pub layer_sites : Context → Layer ExprForm → Sites Site
-layer_sites c layer = inner_sites c layer & only (AtExpr c (first_token (map_layer part_of layer)) (map_layer part_of layer))
+layer_sites c layer = inner_sites c layer & own_sites c (map_layer part_of layer)
 
 -- The arguments of a barrier are no values, so what one is that is no flag is looked at here: it may be an output call, or a barrier.
 abbrev pub no_flag_sites : Context → Layer ExprForm → Sites Site
-no_flag_sites c layer = layer_sites c layer & only (AtFlag (layer_part c (map_layer part_of layer)).value)
+no_flag_sites c layer = layer_sites c layer & only (AtFlag (call_of (layer_part c (map_layer part_of layer))))
 
 abbrev pub expr_seen : Context → Layer ExprForm → ExprForm
 expr_seen c layer = record {
   part = layer_part c (map_layer part_of layer);
   sites = layer_sites c layer;
-  flag_sites = flags_at (no_flag_sites c layer) layer;
+  flag_sites = flags_at c (no_flag_sites c layer) layer;
   alone = alone_of layer;
 }
 

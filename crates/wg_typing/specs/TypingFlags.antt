@@ -1,12 +1,14 @@
 -- What an expression is as an argument of a barrier: operands of `|`. Own.
-use Rattle.std.specs.Prelude.{◌==◌, Bool, true, false, ◌&&◌, if◌then◌else◌, List, [], ◌∷◌, ◌++◌, Option, Some, None}
-use Rattle.wg_typing.specs.Layers.{Layer, LinkLayer, Piece, word, zero_word, other, Part}
+use Rattle.std.specs.Prelude.{◌==◌, Bool, true, false, ◌&&◌, if◌then◌else◌, List, [], ◌∷◌, ◌++◌, Option, Some, None, ◌||◌}
+use Rattle.wg_typing.specs.Layers.{Layer, LinkLayer, Piece, word, zero_word, other, Part, misused}
 use Rattle.wg_typing.specs.TypingActs.{is_plain_act}
 use Rattle.wg_tree.specs.declared.expr.BinaryOperator.{BinaryOperator}
 use Rattle.wg_tree.specs.declared.expr.BinaryOperator.TheVariants as binary
 use Rattle.wg_tree.specs.declared.expr.Expr.TheOpen.{Expr-F}
 use Rattle.wg_typing.specs.declared.scope.Value.{Value}
 use Rattle.wg_typing.specs.declared.scope.Value.TheVariants as value
+use Rattle.wg_typing.specs.Scope.{Context}
+use Rattle.wg_typing.specs.TypingBarrier.{any_flag}
 
 abbrev pub is_or : BinaryOperator → Bool
 is_or binary.BitOr = true
@@ -31,18 +33,27 @@ abbrev pub linked_pieces : List (LinkLayer Part) → List Piece
 linked_pieces [] = []
 linked_pieces (l ∷ rest) = l.operand.pieces ++ linked_pieces rest
 
+-- Flags under another operator are read as flags too, and then do not stand there.
+abbrev pub chain_pieces : Bool → Part → List (LinkLayer Part) → List Piece
+chain_pieces true first rest = first.pieces ++ linked_pieces rest
+chain_pieces false first rest = misused ∷ first.pieces ++ linked_pieces rest
+
+-- whether a chain is read as flags: operands of `|`, or one of them a flag
+abbrev pub are_flags : Context → Part → List (LinkLayer Part) → Bool
+are_flags c first rest = all_or rest || any_flag c (first.pieces ++ linked_pieces rest)
+
 -- where the expression itself is this
-abbrev pub layer_pieces : Option Value → Layer Part → List Piece
-layer_pieces v (Expr-F.Number at n unsigned) = if n == 0 then zero_word ∷ [] else another v
-layer_pieces v (Expr-F.Text at bytes) = another v
-layer_pieces v (Expr-F.Truth at b) = another v
-layer_pieces v (Expr-F.Name name) = word name ∷ []
-layer_pieces v (Expr-F.Call name parts) = another v
-layer_pieces v (Expr-F.Construct at of parts) = another v
-layer_pieces v (Expr-F.Bracket at inner) = inner.pieces
-layer_pieces v (Expr-F.Prefix at operator operand) = another v
-layer_pieces v (Expr-F.Cast at to operand) = another v
-layer_pieces v (Expr-F.Zeros at of) = another v
-layer_pieces v (Expr-F.Postfix first forms) = another v
-layer_pieces v (Expr-F.Chain first rest) = if all_or rest then first.pieces ++ linked_pieces rest else another v
-layer_pieces v (Expr-F.Choice test first second) = another v
+abbrev pub layer_pieces : Context → Option Value → Layer Part → List Piece
+layer_pieces c v (Expr-F.Number at n unsigned long) = if n == 0 then zero_word ∷ [] else another v
+layer_pieces c v (Expr-F.Text at bytes) = another v
+layer_pieces c v (Expr-F.Truth at b) = another v
+layer_pieces c v (Expr-F.Name name) = word name ∷ []
+layer_pieces c v (Expr-F.Call name parts) = another v
+layer_pieces c v (Expr-F.Construct at of parts) = another v
+layer_pieces c v (Expr-F.Bracket at inner) = inner.pieces
+layer_pieces c v (Expr-F.Prefix at operator operand) = another v
+layer_pieces c v (Expr-F.Cast at to operand) = another v
+layer_pieces c v (Expr-F.Zeros at of) = another v
+layer_pieces c v (Expr-F.Postfix first forms) = another v
+layer_pieces c v (Expr-F.Chain first rest) = if are_flags c first rest then chain_pieces (all_or rest) first rest else another v
+layer_pieces c v (Expr-F.Choice test first second) = another v

@@ -122,12 +122,6 @@ abbrev pub forms_on : Context → Place → Along → List (FormLayer Part) → 
 forms_on c place a [] = Some a
 forms_on c place a (f ∷ rest) = form_on c place a f >>= (λ a. forms_on c place a rest)
 
--- what a rule says of each form and what stands before it; of a form after a broken one it says nothing
-abbrev pub over_forms : {X : Type 0} → Context → Place → (Along → FormLayer Part → List X) → Option Along → List (FormLayer Part) → List X
-over_forms c place rule None forms = []
-over_forms c place rule (Some a) [] = []
-over_forms c place rule (Some a) (f ∷ rest) = rule a f ++ over_forms c place rule (form_on c place a f) rest
-
 abbrev pub begun : Part → Option Along
 begun first = first.value >>= (λ v. Some (begin v))
 

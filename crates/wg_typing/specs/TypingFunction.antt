@@ -1,7 +1,7 @@
 -- The typed form of a function: its parameters, and its body in a scope of its own (HLSL Shader Model 6.8, functions).
-use Rattle.std.specs.Prelude.{ℕ, suc, Bool, true, false, if◌then◌else◌, List, [], length, map, Option, Some, None, unwrap_or}
+use Rattle.std.specs.Prelude.{ℕ, Bool, true, false, if◌then◌else◌, List, [], length, map, Option, Some, None, unwrap_or}
 use Rattle.wg_typing.specs.Maybe.{◌>>=◌, all_of}
-use Rattle.wg_typing.specs.Scope.{Context, Around, in_entry, in_plain, in_const, GivesBack, nothing, a_value, unsure, declare, named_type}
+use Rattle.wg_typing.specs.Scope.{Context, Around, in_entry, in_plain, in_const, in_attribute, GivesBack, nothing, a_value, unsure, declare, named_type, once}
 use Rattle.wg_typing.specs.AttributeArguments.{is_entry, lanes_of}
 use Rattle.wg_typing.specs.TypingAttributes.{attributes_of, attribute_sites}
 use Rattle.wg_typing.specs.TypingStmt.{block_after, block_sites, block_trees, walked}
@@ -9,7 +9,7 @@ use Rattle.wg_typing.specs.Sites.{Sites, nowhere, only, ◌&◌}
 use Rattle.wg_typing.specs.Site.{Site, AtType, AtName, AtFunction}
 use Rattle.wg_typing.specs.TypingEvents.{events, chain_of}
 use Rattle.wg_typing.specs.TypingSoFar.{Text, outside, text_names}
-use Rattle.wg_typing.specs.TypingParameter.{Before, parameters_after, parameters_sites, parameters_trees}
+use Rattle.wg_typing.specs.TypingParameter.{Before, parameters_after, parameters_sites, parameters_trees, entry_of}
 use Rattle.wg_tree.specs.declared.expr.Named.{Named}
 use Rattle.wg_tree.specs.declared.stmt.Attribute.{Attribute}
 use Rattle.wg_tree.specs.declared.stmt.Stmt.{Stmt}
@@ -27,6 +27,8 @@ use Rattle.wg_typed.specs.declared.typed.TypedFunction.{TypedFunction}
 use Rattle.wg_typing.specs.declared.scope.Meant.{Meant}
 use Rattle.wg_typing.specs.declared.scope.Meant.TheVariants as meant
 use Rattle.wg_typing.specs.declared.scope.FormalParameter.{FormalParameter}
+use Rattle.wg_typing.specs.TypingMarks.{setting_of, marked_body}
+use Rattle.wg_typed.specs.Uniform.{UniformSetting}
 
 abbrev pub parameter_names : List Parameter → List (List ℕ)
 parameter_names parameters = map (λ (p : Parameter). p.name.name) parameters
@@ -54,11 +56,15 @@ has_result (result_type.Value of) = true
 abbrev pub head_context : Text → List Parameter → Context
 head_context x parameters = record (outside x) { parameters = parameter_names parameters }
 
+-- the same, after the function's own name
+abbrev pub named_context : Text → Named → List Parameter → Context
+named_context x name parameters = once name (head_context x parameters) (declare name meant.Itself (head_context x parameters))
+
 -- the context of its parameters, a scope after its own name
 abbrev pub parameter_context : Text → List Attribute → ResultType → Named → List Parameter → Context
 parameter_context x attributes result name parameters =
-    record (declare name meant.Itself (head_context x parameters)) {
-      start = suc (length x.names);
+    record (named_context x name parameters) {
+      start = length (named_context x name parameters).names;
       around = around_of (head_context x parameters) attributes;
       returns = gives (outside x) result;
     }
@@ -70,24 +76,33 @@ first_before = record { number = 0; has_input = false; outputs = 0 }
 abbrev pub body_context : Context → List Parameter → Context
 body_context c parameters = record (parameters_after first_before parameters c) {
   start = length (parameters_after first_before parameters c).names;
-  direct = true;
 }
 
 abbrev pub body_sites : Context → List Stmt → Sites Site
 body_sites c body = block_sites (map walked body) c
+
+-- the typed parameters, where no rule is broken in them
+abbrev pub known_parameters : Context → List Parameter → List TypedParameter
+known_parameters c parameters = unwrap_or (parameters_trees first_before parameters c) []
+
+-- what is uniform in a function's finished body
+abbrev pub function_setting : Context → List Parameter → List Stmt → UniformSetting
+function_setting c parameters body =
+    setting_of (known_parameters c parameters) (events (body_sites (body_context c parameters) body)) (block_after (map walked body) (body_context c parameters)).locals
 
 abbrev pub function_sites : Text → List Attribute → ResultType → Named → List Parameter → List Stmt → Sites Site
 function_sites x attributes result name parameters body =
     let c = parameter_context x attributes result name parameters in
     let inner = body_sites (body_context c parameters) body in
     attribute_sites (head_context x parameters) attributes & result_sites (outside x) result & only (AtName (text_names x) name)
-    & parameters_sites first_before parameters c & inner & only (AtFunction name c.around (has_result result) (events inner))
+    & parameters_sites first_before parameters c & inner & only (AtFunction name c.around (function_setting c parameters body) (has_result result) (events inner))
 
 abbrev pub result_if : GivesBack → Option (Option TypeTree)
 result_if nothing = Some None
 result_if (a_value of) = Some (Some of)
 result_if unsure = None
 
+-- the typed form without marks, and then the marks
 abbrev pub function_tree : Context → Context → List Attribute → Named → List Parameter → List Stmt → Option TypedFunction
 function_tree head c attributes name parameters body = do
   result ← result_if c.returns
@@ -95,13 +110,14 @@ function_tree head c attributes name parameters body = do
   statements ← block_trees (map walked body) (body_context c parameters)
   typed_handles ← all_of (block_after (map walked body) (body_context c parameters)).handles
   Some (record {
+    entry = entry_of c.around typed_parameters;
     attributes = attributes_of head attributes;
     result = result;
     name = name;
-    parameters = typed_parameters;
-    locals = (block_after (map walked body) (body_context c parameters)).locals;
+    parameters = (function_setting c parameters body).parameters;
+    locals = (function_setting c parameters body).locals;
     handles = typed_handles;
-    body = statements;
+    body = marked_body c.around (function_setting c parameters body) statements;
   })
 
 abbrev pub direction_of : Option Directed → Direction
@@ -119,13 +135,15 @@ passed_of parameters = all_of (map (λ (p : TypedParameter). passed_if p.directi
 abbrev pub is_entry_around : Around → Bool
 is_entry_around (in_entry lanes) = true
 is_entry_around in_plain = false
-is_entry_around (in_const allowed) = false
+is_entry_around in_const = false
+is_entry_around (in_attribute allowed) = false
 
 -- the parameters that a call has to give; an entry function is not called
 abbrev pub passed_in : Around → List TypedParameter → Option (List FormalParameter)
 passed_in (in_entry lanes) parameters = Some []
 passed_in in_plain parameters = passed_of parameters
-passed_in (in_const allowed) parameters = None
+passed_in in_const parameters = None
+passed_in (in_attribute allowed) parameters = None
 
 abbrev pub function_if : ℕ → Context → ℕ → List Parameter → Option Meant
 function_if number c chain parameters = do

@@ -1,5 +1,5 @@
 -- Calls of plain functions (HLSL Shader Model 6.8, functions; the limit on chains of calls is own).
-use Rattle.std.specs.Prelude.{ℕ, Bool, not, ◌&&◌, nat_lt, List, [], ◌∷◌, Option, Some, None}
+use Rattle.std.specs.Prelude.{ℕ, Bool, not, ◌&&◌, nat_lt, List, [], ◌∷◌, Option, Some, None, true, false}
 use Rattle.wg_words.specs.declared.place.Place.{Place}
 use Rattle.wg_typing.specs.Maybe.{◌>>=◌, where_true}
 use Rattle.wg_typing.specs.Conversions.{same_type}
@@ -20,6 +20,12 @@ abbrev pub passed_place : TypeTree → Part → Option TypedExpr
 passed_place of p = do
   t ← typed_part p
   where_true (same_type t.of of && not (is_fixed t.standing)) t.tree
+
+-- whether an argument is copied back when the call returns
+abbrev pub is_given_back : Direction → Bool
+is_given_back direction.In = false
+is_given_back direction.Out = true
+is_given_back direction.InOut = true
 
 abbrev pub passed_as : Direction → TypeTree → Part → Option TypedExpr
 passed_as direction.In of p = fit of p
@@ -43,11 +49,11 @@ chain_limit = 16
 abbrev pub chain_fits : ℕ → Bool
 chain_fits chain = nat_lt chain chain_limit
 
-abbrev pub call_of : Place → ℕ → Option TypeTree → List TypedExpr → Option Value
-call_of name number None arguments = act name (act_of.Step (step.Call number arguments))
-call_of name number (Some of) arguments = fixed name of (tree.Call number arguments)
+abbrev pub plain_call : Place → ℕ → Option TypeTree → List TypedExpr → Option Value
+plain_call name number None arguments = act name (act_of.Step (step.Call number arguments))
+plain_call name number (Some of) arguments = fixed name of (tree.Call number arguments)
 
 abbrev pub plain_value : Place → ℕ → Option TypeTree → List FormalParameter → ℕ → List Part → Option Value
 plain_value name number result parameters chain parts = do
   arguments ← passed_all parameters parts
-  where_true (chain_fits chain) arguments >>= call_of name number result
+  where_true (chain_fits chain) arguments >>= plain_call name number result

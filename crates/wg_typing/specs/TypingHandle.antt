@@ -2,7 +2,7 @@
 use Rattle.std.specs.Prelude.{ℕ, ◌==◌, Bool, true, false, not, ◌&&◌, if◌then◌else◌, [], ◌∷◌, ◌++◌, length, is_some, Option, Some, None}
 use Rattle.wg_typing.specs.Maybe.{◌>>=◌, where_true}
 use Rattle.wg_typed.specs.Layout.{words_of}
-use Rattle.wg_typing.specs.Scope.{Context, own_names, declare, named_type, collective_here}
+use Rattle.wg_typing.specs.Scope.{Context, own_names, declare, named_type, once}
 use Rattle.wg_typing.specs.TypingExpr.{part, sites_of}
 use Rattle.wg_typing.specs.Sites.{Sites, nowhere, only, ◌&◌}
 use Rattle.wg_typing.specs.Site.{Site, AtHandle, AtType, AtName, AtLimit, AtObject}
@@ -99,10 +99,13 @@ with_handle name None handle c = declare name meant.Broken c
 with_handle name (Some number) handle c =
     record (declare name (meant.Object (object.Handle (length c.handles) number)) c) { handles = c.handles ++ handle ∷ [] }
 
+abbrev pub handle_after : ObjectType → Named → Expr → Context → Context
+handle_after of name e c = once name c (with_handle name (handle_record c of) (handle_tree name (handle_request c of e)) c)
+
 abbrev pub handle_sites : ObjectType → Named → Expr → Context → Sites Site
 handle_sites of name e c =
     sites_of c e & object_sites c (is_some (handle_word of.word) && is_some of.record_type) of name & only (AtName (own_names c) name)
     & only (AtHandle c of name (handle_record c of) e)
 
-abbrev pub request_stmt : Context → RequestForm → Option TypedStmt
-request_stmt c r = where_true (collective_here c) (t.Request (length c.handles) r.group r.output r.element r.amount)
+abbrev pub request_stmt : Context → RequestForm → TypedStmt
+request_stmt c r = t.Request (length c.handles) r.group r.output r.element r.amount

@@ -1,10 +1,10 @@
 -- The interlocked forms: their arguments after the destination, and their typed form (HLSL Shader Model 6.8, interlocked functions;
 -- which forms give the old word is as there).
-use Rattle.std.specs.Prelude.{ℕ, Bool, true, false, not, if◌then◌else◌, List, [], ◌∷◌, Option, Some, None}
+use Rattle.std.specs.Prelude.{ℕ, Bool, true, false, not, if◌then◌else◌, List, [], ◌∷◌, Option, Some, None, ◌||◌}
 use Prim.Native.String.{String}
 use Rattle.wg_words.specs.declared.place.Place.{Place}
 use Rattle.wg_typing.specs.Maybe.{◌>>=◌, where_true, if_there}
-use Rattle.wg_typing.specs.Conversions.{is_word, same_type, uint_type}
+use Rattle.wg_typing.specs.Conversions.{is_word, same_type, uint_type, truth_type}
 use Rattle.wg_typing.specs.Layers.{Part, TypedPart, typed_part, fit, act}
 use Rattle.wg_tree.specs.declared.expr.Scalar.TheVariants as scalar
 use Rattle.wg_typed.specs.declared.types.TypeTree.{TypeTree}
@@ -84,9 +84,9 @@ memory_place p = typed_part p >>= (λ t. where_true (is_word t.of) t >>= (λ t. 
 abbrev pub is_int : TypeTree → Bool
 is_int t = same_type t (type.Scalar scalar.Int)
 
--- on a raw buffer the value's own type decides; `bool` becomes `int`
+-- on a raw buffer the value's own type decides: `bool` becomes `int`, and what is neither is taken as `uint`
 abbrev pub raw_type : TypeTree → TypeTree
-raw_type t = if same_type t uint_type then uint_type else type.Scalar scalar.Int
+raw_type t = if is_int t || same_type t truth_type then type.Scalar scalar.Int else uint_type
 
 -- the form at a destination, on words of a type
 abbrev pub interlocked : Place → InterlockedForm → Destination → TypeTree → Operands → Option Value

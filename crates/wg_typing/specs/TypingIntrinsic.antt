@@ -1,9 +1,9 @@
 -- Calls of the intrinsics on numbers (HLSL Shader Model 6.8, intrinsics; which types `any`, `all`, `and`, `or` and the test of `select`
 -- reckon in is own).
-use Rattle.std.specs.Prelude.{ℕ, ◌==◌, Bool, true, false, ◌&&◌, ◌||◌, if◌then◌else◌, List, [], ◌∷◌, length, map, Option, Some, None}
+use Rattle.std.specs.Prelude.{ℕ, ◌==◌, Bool, true, false, ◌&&◌, List, [], ◌∷◌, length, map, Option, Some, None}
 use Rattle.wg_words.specs.declared.place.Place.{Place}
 use Rattle.wg_typing.specs.Maybe.{◌>>=◌, where_true, all_of}
-use Rattle.wg_typing.specs.Conversions.{Numbers, numbers, type_of, is_number, is_uint, truths, common_size, chosen_scalar}
+use Rattle.wg_typing.specs.Conversions.{Numbers, numbers, type_of, is_number, is_uint, truths, common_size, chosen_scalar, size_fits}
 use Rattle.wg_typing.specs.Layers.{Part, TypedPart, all_typed_parts, convert, fixed}
 use Rattle.wg_tree.specs.declared.expr.Scalar.TheVariants as scalar
 use Rattle.wg_typed.specs.declared.types.TypeTree.{TypeTree}
@@ -12,6 +12,8 @@ use Rattle.wg_typed.specs.declared.typed_expr.Intrinsic.TheVariants as intrinsic
 use Rattle.wg_typed.specs.declared.typed_expr.TypedExpr.{TypedExpr}
 use Rattle.wg_typed.specs.declared.typed_expr.TypedKind.TheVariants as tree
 use Rattle.wg_typing.specs.declared.scope.Value.{Value}
+use Rattle.wg_tree.specs.declared.expr.Scalar.{Scalar}
+use Rattle.wg_typed.specs.Operators.{counted, common_scalar}
 
 abbrev pub arity_of : Intrinsic → ℕ
 arity_of intrinsic.Min = 2
@@ -70,9 +72,19 @@ abbrev pub size_of_all : List Numbers → Option (Option ℕ)
 size_of_all [] = Some None
 size_of_all (n ∷ rest) = size_of_all rest >>= common_size n.size
 
-abbrev pub any_uint : List Numbers → Bool
-any_uint [] = false
-any_uint (n ∷ rest) = is_uint n.of || any_uint rest
+abbrev pub all_fit_size : List Numbers → Option ℕ → Bool
+all_fit_size [] size = true
+all_fit_size (n ∷ rest) size = size_fits n size && all_fit_size rest size
+
+-- the same, where all may be of it: a wide scalar is not taken with a vector
+abbrev pub joined_size_of : List Numbers → Option (Option ℕ)
+joined_size_of all = size_of_all all >>= (λ size. where_true (all_fit_size all size) size)
+
+-- the common scalar of one number or more
+abbrev pub scalar_of_all : List Numbers → Scalar
+scalar_of_all [] = scalar.Int
+scalar_of_all (n ∷ []) = counted n.of
+scalar_of_all (n ∷ m ∷ rest) = common_scalar n.of (scalar_of_all (m ∷ rest))
 
 -- the types to which the arguments are converted, and that of the result
 pub record Signature : Type 0 where
@@ -95,12 +107,11 @@ truth_of_each all = record { arguments = map (λ n. truths n.size) all; result =
 
 -- none where they do not fit together
 abbrev pub signature : Reckons → List Numbers → Option Signature
-signature in_common all =
-    size_of_all all >>= (λ size. Some (alike (record { of = if any_uint all then scalar.Uint else scalar.Int; size = size }) all))
-signature in_uint all = size_of_all all >>= (λ size. Some (alike (record { of = scalar.Uint; size = size }) all))
+signature in_common all = joined_size_of all >>= (λ size. Some (alike (record { of = scalar_of_all all; size = size }) all))
+signature in_uint all = joined_size_of all >>= (λ size. Some (alike (record { of = scalar.Uint; size = size }) all))
 signature to_one_truth all = Some (truth_of_each all)
-signature in_truths all = size_of_all all >>= (λ size. Some (alike (truths size) all))
-signature choosing all = size_of_all all >>= chosen_of_size all
+signature in_truths all = joined_size_of all >>= (λ size. Some (alike (truths size) all))
+signature choosing all = joined_size_of all >>= chosen_of_size all
 
 abbrev pub all_numbers : List TypedPart → Option (List Numbers)
 all_numbers ts = all_of (map (λ t. numbers t.of) ts)

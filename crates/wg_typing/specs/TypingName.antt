@@ -3,7 +3,7 @@ use Rattle.std.specs.Prelude.{ℕ, Bool, if◌then◌else◌, [], ◌∷◌, Opt
 use Rattle.wg_words.specs.declared.place.Place.{Place}
 use Rattle.wg_typing.specs.Named.{is_among}
 use Rattle.wg_typing.specs.Conversions.{truth_type, number_type}
-use Rattle.wg_typing.specs.Scope.{Around, in_entry, in_plain, in_const}
+use Rattle.wg_typing.specs.Scope.{Around, in_entry, in_plain, in_const, in_attribute}
 use Rattle.wg_typing.specs.Layers.{valued, fixed}
 use Rattle.wg_tree.specs.declared.expr.Named.{Named}
 use Rattle.wg_typed.specs.declared.typed_expr.TypedKind.TheVariants as tree
@@ -12,9 +12,10 @@ use Rattle.wg_typing.specs.declared.scope.Meant.TheVariants as meant
 use Rattle.wg_typing.specs.declared.scope.Standing.TheVariants as standing
 use Rattle.wg_typing.specs.declared.scope.Value.{Value}
 use Rattle.wg_typing.specs.declared.scope.Value.TheVariants as value
+use Rattle.wg_typed.specs.Operators.{words_for, literal_scalar}
 
-abbrev pub number_value : Place → ℕ → Bool → Option Value
-number_value place n unsigned = fixed place (number_type n unsigned) (tree.Literal (n ∷ []))
+abbrev pub number_value : Place → ℕ → Bool → Bool → Option Value
+number_value place n unsigned long = fixed place (number_type n unsigned long) (tree.Literal (words_for (literal_scalar n unsigned long) (n ∷ [])))
 
 abbrev pub truth_value : Place → Bool → Option Value
 truth_value place b = fixed place truth_type (tree.Literal ((if b then 1 else 0) ∷ []))
@@ -49,4 +50,5 @@ const_name place None = None
 abbrev pub named_value : Around → Named → Option Meant → Option Value
 named_value (in_entry lanes) name m = name_value name.place m
 named_value in_plain name m = name_value name.place m
-named_value (in_const allowed) name m = if is_among allowed name.name then None else const_name name.place m
+named_value in_const name m = const_name name.place m
+named_value (in_attribute allowed) name m = if is_among allowed name.name then None else const_name name.place m

@@ -23,6 +23,8 @@ use Rattle.wg_typing.specs.declared.scope.Standing.TheVariants as standing
 use Rattle.wg_typing.specs.declared.scope.Value.{Value}
 use Rattle.wg_typing.specs.declared.scope.Value.TheVariants as value
 use Rattle.wg_typing.specs.declared.scope.Act.TheVariants as act_of
+use Rattle.wg_typing.specs.declared.scope.Sharing.{Sharing}
+use Rattle.wg_typing.specs.declared.scope.Sharing.TheVariants as sharing
 
 -- ---- methods
 
@@ -37,6 +39,7 @@ pub data Method : Type 0 where
   increment : Bool → Method
   is_valid : Method
   complete : Method
+  finished : Method
 
 abbrev pub loads : List (String × Method)
 loads = ("Load", load 1) ∷ ("Load2", load 2) ∷ ("Load3", load 3) ∷ ("Load4", load 4) ∷ []
@@ -55,9 +58,21 @@ abbrev pub buffer_methods : TypedBufferType → List (String × Method)
 buffer_methods (buffer_type.Raw writable) = raw_methods writable
 buffer_methods (buffer_type.Structured writable of) = []
 
-abbrev pub input_methods : Bool → Option ℕ → List (String × Method)
-input_methods many None = ("Count", count) ∷ []
-input_methods many (Some record_type) = ("Get", get) ∷ (if many then ("Count", count) ∷ [] else [])
+-- whether the words are the record's, which its groups share
+abbrev pub is_shared : Sharing → Bool
+is_shared sharing.Copied = false
+is_shared sharing.Shared = true
+is_shared sharing.Tracked = true
+
+abbrev pub is_tracked : Sharing → Bool
+is_tracked sharing.Copied = false
+is_tracked sharing.Shared = false
+is_tracked sharing.Tracked = true
+
+abbrev pub input_methods : Bool → Option ℕ → Sharing → List (String × Method)
+input_methods many None s = ("Count", count) ∷ []
+input_methods many (Some record_type) s =
+    ("Get", get) ∷ ((if many then ("Count", count) ∷ [] else []) ++ (if is_shared s then ("FinishedCrossGroupSharing", finished) ∷ [] else []))
 
 abbrev pub sending : Option ℕ → List (String × Method)
 sending None = ("ThreadIncrementOutputCount", increment false) ∷ ("GroupIncrementOutputCount", increment true) ∷ []
@@ -71,7 +86,7 @@ output_methods false record_type element = ("IsValid", is_valid) ∷ sending rec
 
 abbrev pub methods : Object → List (String × Method)
 methods (object.Buffer buffer of) = buffer_methods of
-methods (object.Input many record_type standing) = input_methods many record_type
+methods (object.Input many record_type standing sharing) = input_methods many record_type sharing
 methods (object.Output output array record_type element) = output_methods array record_type element
 methods (object.Handle handle record_type) = ("Get", get) ∷ ("OutputComplete", complete) ∷ []
 
@@ -83,7 +98,7 @@ method_of o name = at_name (methods o) name
 -- `Get` has an index on several records; on a handle it may
 abbrev pub get_takes : Object → ℕ → Bool
 get_takes (object.Buffer buffer of) n = false
-get_takes (object.Input many record_type standing) n = n == (if many then 1 else 0)
+get_takes (object.Input many record_type standing sharing) n = n == (if many then 1 else 0)
 get_takes (object.Output output array record_type element) n = false
 get_takes (object.Handle handle record_type) n = nat_le n 1
 
@@ -102,6 +117,7 @@ takes o (request group) parts = length parts == 1
 takes o (increment group) parts = length parts == 1
 takes o is_valid parts = length parts == 0
 takes o complete parts = length parts == 0
+takes o finished parts = length parts == 0
 
 -- the types of the arguments, where there are as many; those of an interlocked form are told in its own file
 abbrev pub argument_types : Method → List Part → List TypeTree
@@ -115,6 +131,7 @@ argument_types (request group) parts = uint_type ∷ []
 argument_types (increment group) parts = uint_type ∷ []
 argument_types is_valid parts = []
 argument_types complete parts = []
+argument_types finished parts = []
 
 -- ---- typed forms
 
@@ -122,9 +139,10 @@ argument_types complete parts = []
 abbrev pub method_form : Place → Place → Object → Method → List TypedExpr → Option Value
 method_form place name (object.Buffer buffer of) (load n) (address ∷ []) = fixed place (uints n) (tree.Load buffer address)
 method_form place name (object.Buffer buffer of) (store n) (address ∷ v ∷ []) = act name (act_of.Step (step.Store buffer address v))
-method_form place name (object.Input many (Some number) standing) get [] = valued standing place (type.Struct number) (tree.Input None)
-method_form place name (object.Input many (Some number) standing) get (i ∷ []) = valued standing place (type.Struct number) (tree.Input (Some i))
-method_form place name (object.Input many record_type standing) count [] = fixed place uint_type tree.Count
+method_form place name (object.Input many (Some number) standing sharing) get [] = valued standing place (type.Struct number) (tree.Input None)
+method_form place name (object.Input many (Some number) standing sharing) get (i ∷ []) = valued standing place (type.Struct number) (tree.Input (Some i))
+method_form place name (object.Input many record_type standing sharing) count [] = fixed place uint_type tree.Count
+method_form place name (object.Input many record_type standing sharing) finished [] = act name (act_of.Finished (is_tracked sharing))
 method_form place name (object.Output output array (Some number) element) (request group) (n ∷ []) = act name (act_of.Request group output number element n)
 method_form place name (object.Output output array None element) (increment group) (n ∷ []) = act name (act_of.Increment group output element n)
 method_form place name (object.Output output array record_type element) is_valid [] = fixed place truth_type (tree.IsValid output element)
@@ -158,7 +176,7 @@ output_element output false record_type element i = None
 -- the element of an object at an index; none where it has no elements
 abbrev pub element_value : Place → Object → TypedExpr → Option Value
 element_value place (object.Buffer buffer of) i = element_of_buffer place buffer of i
-element_value place (object.Input many record_type standing) i = input_element place many record_type standing i
+element_value place (object.Input many record_type standing sharing) i = input_element place many record_type standing i
 element_value place (object.Output output array record_type element) i = output_element output array record_type element i
 element_value place (object.Handle handle number) i = valued standing.Own place (type.Struct number) (tree.Handle handle (Some i))
 
@@ -173,7 +191,7 @@ is_whole_array array (Some element) = false
 -- whether an object has elements
 abbrev pub has_elements : Object → Bool
 has_elements (object.Buffer buffer of) = is_structured of
-has_elements (object.Input many None standing) = false
-has_elements (object.Input many (Some number) standing) = many
+has_elements (object.Input many None standing sharing) = false
+has_elements (object.Input many (Some number) standing sharing) = many
 has_elements (object.Output output array record_type element) = is_whole_array array element
 has_elements (object.Handle handle number) = true

@@ -1,8 +1,8 @@
 -- The typed form of operators: prefix operators, casts, `?:`, and chains of operators from left to right (HLSL Shader Model 6.8, operators).
-use Rattle.std.specs.Prelude.{◌&&◌, if◌then◌else◌, List, [], ◌∷◌, ◌++◌, Option, Some, None}
+use Rattle.std.specs.Prelude.{◌&&◌, if◌then◌else◌, List, [], ◌∷◌, Option, Some, None}
 use Rattle.wg_words.specs.declared.place.Place.{Place}
 use Rattle.wg_typing.specs.Maybe.{◌>>=◌, where_true}
-use Rattle.wg_typing.specs.Conversions.{Numbers, numbers, type_of, truth_type, same_type, fits, counted, truths, common_numbers, class_of, suits, Operation, operation_on}
+use Rattle.wg_typing.specs.Conversions.{Numbers, numbers, type_of, truth_type, same_type, fits, truths, common_numbers, class_of, suits, Operation, operation_on}
 use Rattle.wg_typing.specs.Layers.{LinkLayer, Part, typed_part, convert, fit, fixed}
 use Rattle.wg_tree.specs.declared.expr.PrefixOperator.{PrefixOperator}
 use Rattle.wg_tree.specs.declared.expr.PrefixOperator.TheVariants as prefix
@@ -14,6 +14,7 @@ use Rattle.wg_typed.specs.declared.typed_expr.TypedLink.{TypedLink, roll-TypedLi
 use Rattle.wg_typing.specs.declared.scope.Meant.{Meant}
 use Rattle.wg_typing.specs.declared.scope.Meant.TheVariants as meant
 use Rattle.wg_typing.specs.declared.scope.Value.{Value}
+use Rattle.wg_typed.specs.Operators.{counted}
 
 abbrev pub prefix_type : PrefixOperator → Numbers → Numbers
 prefix_type prefix.Minus n = record { of = counted n.of; size = n.size }
@@ -95,12 +96,6 @@ chain_links before (l ∷ rest) = do
   first ← run_on of l
   others ← chain_links (run_type of l) rest
   Some (first ∷ others)
-
--- what a rule says of each operator and the type of what stands before it; of one after a broken one it says nothing
-abbrev pub over_links : {X : Type 0} → (TypeTree → LinkLayer Part → List X) → Option TypeTree → List (LinkLayer Part) → List X
-over_links rule None rest = []
-over_links rule (Some of) [] = []
-over_links rule (Some of) (l ∷ rest) = rule of l ++ over_links rule (run_type of l) rest
 
 abbrev pub typed_of : Part → Option TypeTree
 typed_of p = typed_part p >>= (λ t. Some t.of)

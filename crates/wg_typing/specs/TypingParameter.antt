@@ -1,7 +1,7 @@
 -- The parameters of a function: values, and in an entry function one input and outputs (DirectX-Specs, Work Graphs, node inputs and outputs).
-use Rattle.std.specs.Prelude.{ℕ, suc, Bool, true, false, not, ◌||◌, if◌then◌else◌, List, [], ◌∷◌, Option, Some, None}
+use Rattle.std.specs.Prelude.{ℕ, suc, Bool, true, false, not, ◌||◌, if◌then◌else◌, List, [], ◌∷◌, Option, Some, None, slice_get}
 use Rattle.wg_typing.specs.Maybe.{◌>>=◌, where_true}
-use Rattle.wg_typing.specs.Scope.{Context, Around, in_entry, in_plain, in_const, own_names, declare, named_type}
+use Rattle.wg_typing.specs.Scope.{Context, Around, in_entry, in_plain, in_const, in_attribute, own_names, declare, named_type, once}
 use Rattle.wg_typing.specs.TypingAttributes.{attributes_of, attribute_sites}
 use Rattle.wg_typing.specs.TypingHandle.{record_number, object_sites}
 use Rattle.wg_typing.specs.Sites.{Sites, nowhere, only, ◌&◌}
@@ -24,21 +24,28 @@ use Rattle.wg_typing.specs.declared.scope.Object.{Object}
 use Rattle.wg_typing.specs.declared.scope.Object.TheVariants as object
 use Rattle.wg_typing.specs.declared.scope.Standing.{Standing}
 use Rattle.wg_typing.specs.declared.scope.Standing.TheVariants as standing
+use Rattle.wg_typing.specs.TypingSystem.{system_in}
+use Rattle.wg_typed.specs.declared.typed.TypedEntry.{TypedEntry}
+use Rattle.wg_typing.specs.AttributeArguments.{has}
+use Rattle.wg_typed.specs.declared.typed.TypedStruct.{TypedStruct}
+use Rattle.wg_typing.specs.declared.scope.Sharing.{Sharing}
+use Rattle.wg_typing.specs.declared.scope.Sharing.TheVariants as sharing
 
 -- what an object's word makes of a parameter of an entry function
 pub data Role : Type 0 where
-  an_input : Bool → Standing → Role
+  -- an input: whether it holds several records, whether its words can be changed, and whether they are the record's
+  an_input : Bool → Standing → Bool → Role
   an_output : Bool → Role
   no_role : Role
 
 abbrev pub role_of : ObjectWord → Role
-role_of object_word.DispatchNodeInputRecord = an_input false standing.Fixed
-role_of object_word.RwDispatchNodeInputRecord = no_role
-role_of object_word.GroupNodeInputRecords = an_input true standing.Fixed
-role_of object_word.RwGroupNodeInputRecords = an_input true standing.Own
-role_of object_word.ThreadNodeInputRecord = an_input false standing.Fixed
-role_of object_word.RwThreadNodeInputRecord = an_input false standing.Own
-role_of object_word.EmptyNodeInput = an_input true standing.Fixed
+role_of object_word.DispatchNodeInputRecord = an_input false standing.Fixed false
+role_of object_word.RwDispatchNodeInputRecord = an_input false standing.Own true
+role_of object_word.GroupNodeInputRecords = an_input true standing.Fixed false
+role_of object_word.RwGroupNodeInputRecords = an_input true standing.Own false
+role_of object_word.ThreadNodeInputRecord = an_input false standing.Fixed false
+role_of object_word.RwThreadNodeInputRecord = an_input false standing.Own false
+role_of object_word.EmptyNodeInput = an_input true standing.Fixed false
 role_of object_word.NodeOutput = an_output false
 role_of object_word.NodeOutputArray = an_output true
 role_of object_word.EmptyNodeOutput = an_output false
@@ -53,13 +60,13 @@ pub record Before : Type 0 where
   pub outputs : ℕ
 
 abbrev pub is_input : Role → Bool
-is_input (an_input many s) = true
+is_input (an_input many s shared) = true
 is_input (an_output array) = false
 is_input no_role = false
 
 abbrev pub is_output : Role → Bool
 is_output (an_output array) = true
-is_output (an_input many s) = false
+is_output (an_input many s shared) = false
 is_output no_role = false
 
 abbrev pub role_in : ParameterType → Role
@@ -75,11 +82,12 @@ one_more of b = record {
 
 -- whether an object may stand as a parameter: in an entry function, one input alone
 abbrev pub takes_role : Around → Bool → Role → Bool
-takes_role (in_entry lanes) has_input (an_input many s) = not has_input
+takes_role (in_entry lanes) has_input (an_input many s shared) = not has_input
 takes_role (in_entry lanes) has_input (an_output array) = true
 takes_role (in_entry lanes) has_input no_role = false
 takes_role in_plain has_input role = false
-takes_role (in_const allowed) has_input role = false
+takes_role in_const has_input role = false
+takes_role (in_attribute allowed) has_input role = false
 
 -- the record type of an object that stands where it may: none where it is broken
 pub data HeldRecords : Type 0 where
@@ -98,15 +106,28 @@ holds_named (Some of) number = holds_if number
 abbrev pub holds : Context → ObjectType → HeldRecords
 holds c of = holds_named of.record_type (record_number c of)
 
-abbrev pub input_or_output : Role → ℕ → Option ℕ → Option Object
-input_or_output (an_input many s) outputs record_type = Some (object.Input many record_type s)
-input_or_output (an_output array) outputs record_type = Some (object.Output outputs array record_type None)
-input_or_output no_role outputs record_type = None
+abbrev pub is_marked : Option TypedStruct → Bool
+is_marked None = false
+is_marked (Some s) = has "NodeTrackRWInputSharing" s.attributes
 
-abbrev pub role_object : Role → ℕ → HeldRecords → Option Object
-role_object role outputs empty = input_or_output role outputs None
-role_object role outputs (records number) = input_or_output role outputs (Some number)
-role_object role outputs unsure_records = None
+abbrev pub tracked_if : List TypedStruct → Option ℕ → Sharing
+tracked_if structs None = sharing.Shared
+tracked_if structs (Some number) = if is_marked (slice_get structs number) then sharing.Tracked else sharing.Shared
+
+-- whose the words of an input are
+abbrev pub sharing_of : List TypedStruct → Bool → Option ℕ → Sharing
+sharing_of structs true record_type = tracked_if structs record_type
+sharing_of structs false record_type = sharing.Copied
+
+abbrev pub input_or_output : List TypedStruct → Role → ℕ → Option ℕ → Option Object
+input_or_output structs (an_input many s shared) outputs record_type = Some (object.Input many record_type s (sharing_of structs shared record_type))
+input_or_output structs (an_output array) outputs record_type = Some (object.Output outputs array record_type None)
+input_or_output structs no_role outputs record_type = None
+
+abbrev pub role_object : List TypedStruct → Role → ℕ → HeldRecords → Option Object
+role_object structs role outputs empty = input_or_output structs role outputs None
+role_object structs role outputs (records number) = input_or_output structs role outputs (Some number)
+role_object structs role outputs unsure_records = None
 
 abbrev pub object_if : Option Object → Meant
 object_if (Some o) = meant.Object o
@@ -119,10 +140,10 @@ value_if number None = meant.Broken
 abbrev pub parameter_meant : Context → Before → ParameterType → Meant
 parameter_meant c b (parameter_type.Value of) = value_if b.number (named_type c.names of)
 parameter_meant c b (parameter_type.Object of) =
-    if takes_role c.around b.has_input (role_of of.word) then object_if (role_object (role_of of.word) b.outputs (holds c of)) else meant.Broken
+    if takes_role c.around b.has_input (role_of of.word) then object_if (role_object c.structs (role_of of.word) b.outputs (holds c of)) else meant.Broken
 
 abbrev pub with_parameter : Before → Parameter → Context → Context
-with_parameter b p c = declare p.name (parameter_meant c b p.of) c
+with_parameter b p c = once p.name c (declare p.name (parameter_meant c b p.of) c)
 
 abbrev pub parameters_after : Before → List Parameter → Context → Context
 parameters_after b [] c = c
@@ -162,6 +183,8 @@ parameter_tree c b p = parameter_type_tree c b p.of >>= (λ of. Some (record {
   of = of;
   name = p.name;
   semantic = p.semantic;
+  system = system_in c.around p.direction of p.semantic;
+  uniform = false;
 }))
 
 abbrev pub parameters_trees : Before → List Parameter → Context → Option (List TypedParameter)
@@ -170,3 +193,25 @@ parameters_trees b (p ∷ rest) c = do
   first ← parameter_tree c b p
   others ← parameters_trees (one_more p.of b) rest (with_parameter b p c)
   Some (first ∷ others)
+
+-- ---- what makes a function a node
+
+abbrev pub list_first : List ℕ → Option ℕ
+list_first [] = None
+list_first (x ∷ rest) = Some x
+
+abbrev pub typed_role : TypedParameterType → Role
+typed_role (typed_parameter.Value of) = no_role
+typed_role (typed_parameter.Object place word record_type) = role_of word
+
+-- the numbers of the parameters of a role, counted from one on
+abbrev pub numbered : (Role → Bool) → ℕ → List TypedParameter → List ℕ
+numbered test at [] = []
+numbered test at (p ∷ rest) = if test (typed_role p.of) then at ∷ numbered test (suc at) rest else numbered test (suc at) rest
+
+-- the lanes of a node, and the numbers of its input and its outputs
+abbrev pub entry_of : Around → List TypedParameter → Option TypedEntry
+entry_of (in_entry lanes) parameters = Some (record { lanes = lanes; input = list_first (numbered is_input 0 parameters); outputs = numbered is_output 0 parameters })
+entry_of in_plain parameters = None
+entry_of in_const parameters = None
+entry_of (in_attribute allowed) parameters = None

@@ -26,7 +26,6 @@ outside x = record {
   around = in_plain;
   parameters = [];
   returns = nothing;
-  direct = false;
   looped = false;
   locals = [];
   handles = [];

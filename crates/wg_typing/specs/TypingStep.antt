@@ -1,8 +1,8 @@
 -- The typed form of a step, as a statement and in the header of a `for` (HLSL Shader Model 6.8, statements; collective statements are own).
-use Rattle.std.specs.Prelude.{ℕ, ◌==◌, Bool, true, false, not, ◌&&◌, ◌||◌, List, [], ◌∷◌, ◌++◌, Option, Some, None}
+use Rattle.std.specs.Prelude.{ℕ, ◌==◌, Bool, true, false, not, ◌||◌, List, [], ◌∷◌, ◌++◌, Option, Some, None}
 use Rattle.wg_typing.specs.Maybe.{◌>>=◌, where_true}
 use Rattle.wg_typing.specs.Conversions.{type_of, fits, is_number}
-use Rattle.wg_typing.specs.Scope.{Context, own, collective_here}
+use Rattle.wg_typing.specs.Scope.{Context, own}
 use Rattle.wg_typing.specs.Layers.{Part, TypedPart, typed_part, convert, fit}
 use Rattle.wg_typing.specs.TypingInterlocked.{is_fixed}
 use Rattle.wg_typing.specs.TypingExpr.{part, sites_of}
@@ -105,7 +105,7 @@ step_sites c header s = step_parts c s & only (AtStep c header s)
 -- whether the handle of the number is declared in the own scope
 abbrev pub is_handle : ℕ → Meant → Bool
 is_handle handle (meant.Object (object.Buffer buffer of)) = false
-is_handle handle (meant.Object (object.Input many record_type standing)) = false
+is_handle handle (meant.Object (object.Input many record_type standing sharing)) = false
 is_handle handle (meant.Object (object.Output output array record_type element)) = false
 is_handle handle (meant.Object (object.Handle number record_type)) = number == handle
 is_handle handle (meant.Struct number) = false
@@ -124,13 +124,14 @@ declares_handle handle (d ∷ rest) = is_handle handle d.meant || declares_handl
 abbrev pub own_handle : Context → ℕ → Bool
 own_handle c handle = declares_handle handle (own c)
 
--- a step as a statement, where collective statements may stand or not, and some handles are of the own block
+-- A step as a statement; where collective statements may stand is looked at on the whole body. `OutputComplete` is of a handle of the own block.
 abbrev pub act_stmt : Context → Act → Option TypedStmt
 act_stmt c (act.Step s) = Some (t.Step s)
-act_stmt c (act.Barrier syncs) = where_true (not syncs || collective_here c) (t.Barrier syncs)
+act_stmt c (act.Barrier syncs) = Some (t.Barrier syncs)
 act_stmt c (act.Request group output number element amount) = None
-act_stmt c (act.Increment group output element amount) = where_true (collective_here c) (t.Increment group output element amount)
-act_stmt c (act.Complete handle) = where_true (collective_here c && own_handle c handle) (t.Complete handle)
+act_stmt c (act.Increment group output element amount) = Some (t.Increment group output element amount)
+act_stmt c (act.Complete handle) = where_true (own_handle c handle) (t.Complete handle)
+act_stmt c (act.Finished tracked) = None
 
 abbrev pub step_stmt : Context → Did → Option TypedStmt
 step_stmt c (a_step s) = Some (t.Step s)
@@ -143,6 +144,7 @@ act_in_header (act.Barrier syncs) = where_true (not syncs) []
 act_in_header (act.Request group output number element amount) = None
 act_in_header (act.Increment group output element amount) = None
 act_in_header (act.Complete handle) = None
+act_in_header (act.Finished tracked) = None
 
 abbrev pub did_in_header : Did → Option (List TypedStep)
 did_in_header (a_step s) = Some (s ∷ [])

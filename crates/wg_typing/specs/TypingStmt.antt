@@ -1,17 +1,17 @@
 -- The typed form of a statement, its sites, and the context after it: a fold over one layer of the tree (HLSL Shader Model 6.8, statements).
-use Rattle.std.specs.Prelude.{false, List, [], ◌∷◌, Option, Some, None}
+use Rattle.std.specs.Prelude.{false, List, [], ◌∷◌, Option, Some, None, Bool, true, ◌&&◌}
 use Rattle.wg_words.specs.declared.place.Place.{Place}
 use Rattle.wg_typing.specs.Maybe.{◌>>=◌, where_true, if_there}
 use Rattle.wg_typing.specs.Conversions.{truth_type}
 use Rattle.wg_typing.specs.Scope.{Context, GivesBack, nothing, a_value, unsure, enter, enter_loop, leave}
 use Rattle.wg_typing.specs.TypingExpr.{sites_of}
 use Rattle.wg_typing.specs.TypingAttributes.{attributes_of, attribute_sites}
-use Rattle.wg_typing.specs.Sites.{Sites, nowhere, only, ◌&◌}
+use Rattle.wg_typing.specs.Sites.{Sites, nowhere, only, ◌&◌, within}
 use Rattle.wg_typing.specs.Site.{Site, AtReturn, AtJump}
 use Rattle.wg_typing.specs.TypingDeclared.{fit_in, condition_sites}
 use Rattle.wg_typing.specs.TypingStep.{step_did, step_sites, step_stmt, header_trees, header_sites, maybe_steps}
 use Rattle.wg_typing.specs.TypingDeclaration.{declaration_after, declaration_sites, declaration_trees}
-use Rattle.wg_typing.specs.TypingHandle.{handle_record, handle_request, handle_tree, with_handle, handle_sites, request_stmt}
+use Rattle.wg_typing.specs.TypingHandle.{handle_request, handle_sites, request_stmt, handle_after}
 use Rattle.wg_typing.specs.TypingLoop.{start_sites, start_tree, test_sites, in_header}
 use Rattle.wg_tree.specs.declared.expr.Expr.{Expr}
 use Rattle.wg_tree.specs.declared.stmt.Attribute.{Attribute}
@@ -20,9 +20,11 @@ use Rattle.wg_tree.specs.declared.stmt.Stmt.{Stmt, fold-Stmt}
 use Rattle.wg_tree.specs.declared.stmt.Stmt.TheOpen.{Stmt-F}
 use Rattle.wg_typed.specs.declared.typed_stmt.TypedStmt.{TypedStmt}
 use Rattle.wg_typed.specs.declared.typed_stmt.TypedStmt.TheVariants as t
+use Rattle.wg_typing.specs.Region.{Region, a_loop, a_block, a_branch}
 
--- what a statement does in its context: the context after it, its sites, and its typed form if it has one
+-- what a statement does in its context: whether it is a block, the context after it, its sites, and its typed form if it has one
 pub record Walked : Type 0 where
+  pub block : Bool
   pub after : Context
   pub sites : Sites Site
   pub tree : Option TypedStmt
@@ -64,7 +66,7 @@ abbrev pub stmt_after : Stmt-F Walk → Context → Context
 stmt_after (Stmt-F.Block place body) c = leave c (block_after body (enter c))
 stmt_after (Stmt-F.Empty place) c = c
 stmt_after (Stmt-F.Declare d) c = declaration_after d c
-stmt_after (Stmt-F.Handle of name e) c = with_handle name (handle_record c of) (handle_tree name (handle_request c of e)) c
+stmt_after (Stmt-F.Handle of name e) c = handle_after of name e c
 stmt_after (Stmt-F.Step s) c = c
 stmt_after (Stmt-F.Break place) c = c
 stmt_after (Stmt-F.Continue place) c = c
@@ -77,8 +79,29 @@ abbrev pub returned_sites : Context → Place → Option Expr → Sites Site
 returned_sites c place None = only (AtReturn c place None)
 returned_sites c place (Some e) = sites_of c e & only (AtReturn c place (Some e))
 
+abbrev pub is_block : Stmt-F Walk → Bool
+is_block (Stmt-F.Block place body) = true
+is_block (Stmt-F.Empty place) = false
+is_block (Stmt-F.Declare d) = false
+is_block (Stmt-F.Handle of name e) = false
+is_block (Stmt-F.Step s) = false
+is_block (Stmt-F.Break place) = false
+is_block (Stmt-F.Continue place) = false
+is_block (Stmt-F.Return place e) = false
+is_block (Stmt-F.If attributes place test first other) = false
+is_block (Stmt-F.While attributes place test body) = false
+is_block (Stmt-F.For attributes place h body) = false
+
+abbrev pub else_is_block : Option Walk → Context → Bool
+else_is_block None c = true
+else_is_block (Some w) c = (w (enter c)).block
+
+-- the branches of an `if`
+abbrev pub branches : Context → Expr → Walk → Option Walk → Region
+branches c test first other = a_branch (fit_in c truth_type test) ((first (enter c)).block && else_is_block other (branch_after first c))
+
 abbrev pub stmt_sites : Stmt-F Walk → Context → Sites Site
-stmt_sites (Stmt-F.Block place body) c = block_sites body (enter c)
+stmt_sites (Stmt-F.Block place body) c = within a_block (block_sites body (enter c))
 stmt_sites (Stmt-F.Empty place) c = nowhere
 stmt_sites (Stmt-F.Declare d) c = declaration_sites d c
 stmt_sites (Stmt-F.Handle of name e) c = handle_sites of name e c
@@ -87,12 +110,12 @@ stmt_sites (Stmt-F.Break place) c = only (AtJump c place)
 stmt_sites (Stmt-F.Continue place) c = only (AtJump c place)
 stmt_sites (Stmt-F.Return place e) c = returned_sites c place e
 stmt_sites (Stmt-F.If attributes place test first other) c =
-    attribute_sites c attributes & condition_sites c test & (first (enter c)).sites & else_sites other (branch_after first c)
+    attribute_sites c attributes & condition_sites c test & within (branches c test first other) ((first (enter c)).sites & else_sites other (branch_after first c))
 stmt_sites (Stmt-F.While attributes place test body) c =
-    attribute_sites c attributes & condition_sites c test & (body (enter_loop c)).sites
+    attribute_sites c attributes & condition_sites c test & within a_loop (body (enter_loop c)).sites
 stmt_sites (Stmt-F.For attributes place h body) c =
-    attribute_sites c attributes & start_sites h.start (enter c) & test_sites (in_header h c) h.test
-    & header_sites (in_header h c) (maybe_steps h.steps) & (body (enter_loop (in_header h c))).sites
+    attribute_sites c attributes & within a_block (start_sites h.start (enter c)) & test_sites (in_header h c) h.test
+    & header_sites (in_header h c) (maybe_steps h.steps) & within a_loop (body (enter_loop (in_header h c))).sites
 
 -- the value that a function gives back
 abbrev pub returned_tree : Context → GivesBack → Option Expr → Option TypedStmt
@@ -128,7 +151,7 @@ abbrev pub stmt_tree : Stmt-F Walk → Context → Option TypedStmt
 stmt_tree (Stmt-F.Block place body) c = block_trees body (enter c) >>= (λ body. Some (t.Block body))
 stmt_tree (Stmt-F.Empty place) c = Some t.Empty
 stmt_tree (Stmt-F.Declare d) c = declaration_trees d c >>= (λ d. Some (t.Declare d))
-stmt_tree (Stmt-F.Handle of name e) c = handle_request c of e >>= request_stmt c
+stmt_tree (Stmt-F.Handle of name e) c = handle_request c of e >>= (λ r. Some (request_stmt c r))
 stmt_tree (Stmt-F.Step s) c = step_did c s >>= step_stmt c
 stmt_tree (Stmt-F.Break place) c = where_true c.looped t.Break
 stmt_tree (Stmt-F.Continue place) c = where_true c.looped t.Continue
@@ -138,7 +161,7 @@ stmt_tree (Stmt-F.While attributes place test body) c = while_tree c attributes 
 stmt_tree (Stmt-F.For attributes place h body) c = for_tree c attributes h body
 
 abbrev pub stmt_walked : Stmt-F Walk → Walk
-stmt_walked layer c = record { after = stmt_after layer c; sites = stmt_sites layer c; tree = stmt_tree layer c }
+stmt_walked layer c = record { block = is_block layer; after = stmt_after layer c; sites = stmt_sites layer c; tree = stmt_tree layer c }
 
 abbrev pub walked : Stmt → Walk
 walked = fold-Stmt Walk stmt_walked

@@ -10,11 +10,13 @@ pub enum Object {
         buffer: u32,
         of: TypedBufferType,
     },
-    /// An input: whether it holds several records, its record type unless it is empty, and whether its words can be changed.
+    /// An input: whether it holds several records, its record type unless it is empty, whether its words can be changed, and
+    /// whose they are.
     Input {
         many: bool,
         record: Option<u32>,
         standing: Standing,
+        sharing: Sharing,
     },
     /// An output, or an element of an output array; an array itself has no element.
     Output {
@@ -92,7 +94,16 @@ pub enum Standing {
     Memory,
 }
 
-/// What a call does that has no value.
+/// Whose the words of an input are: the launch's own copy, or the record's, which all its groups share. The last group is
+/// told where the struct is marked for it, which is then tracked.
+#[derive(Clone, Copy, Debug, PartialEq, Eq)]
+pub enum Sharing {
+    Copied,
+    Shared,
+    Tracked,
+}
+
+/// What a call does that has no value where it stands by itself.
 #[derive(Drop)]
 pub enum Act {
     Step {
@@ -116,6 +127,10 @@ pub enum Act {
     },
     Complete {
         handle: u32,
+    },
+    /// `FinishedCrossGroupSharing()`; `tracked` where the struct is marked for it.
+    Finished {
+        tracked: bool,
     },
 }
 

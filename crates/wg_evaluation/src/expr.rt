@@ -23,7 +23,7 @@ use wg_typed::{
 use wg_values::{
     Setting, buffer_place, combine_all, components, convert, element, fetch, field_piece,
     handle_place, input_place, intrinsic, parameter_size, part, prefix_all, put_all, raw_words,
-    scalar, target, truth_word, word_at, zero_value, zero_words,
+    target, truth_word, word_at, zero_value, zero_words,
 };
 use wg_words::{Word, WordLists, Words};
 
@@ -230,12 +230,27 @@ fn operate<C: Calls>(
                 value(setting, calls, e, run)
             }
         }
-        _ => {
+        BinaryOperator::Multiply
+        | BinaryOperator::Divide
+        | BinaryOperator::Remainder
+        | BinaryOperator::Add
+        | BinaryOperator::Subtract
+        | BinaryOperator::ShiftLeft
+        | BinaryOperator::ShiftRight
+        | BinaryOperator::Less
+        | BinaryOperator::Greater
+        | BinaryOperator::AtMost
+        | BinaryOperator::AtLeast
+        | BinaryOperator::Equal
+        | BinaryOperator::NotEqual
+        | BinaryOperator::BitAnd
+        | BinaryOperator::BitXor
+        | BinaryOperator::BitOr => {
             let right = value(setting, calls, e, run)?;
             Ok(combine_all(
                 setting.alloc,
                 operator,
-                scalar(t),
+                t,
                 words.as_slice(),
                 right.as_slice(),
             )?)
@@ -458,7 +473,7 @@ fn prefix<C: Calls>(
     ensures turns { run.new.turns ≤ run.old.turns }
 {
     let words = value(setting, calls, operand.get(), run)?;
-    let words = prefix_all(setting.alloc, operator, scalar(t), words.as_slice())?;
+    let words = prefix_all(setting.alloc, operator, t, words.as_slice())?;
     Ok(Spot::Value { words })
 }
 
@@ -510,7 +525,7 @@ fn numeric_call<C: Calls>(
     ensures turns { run.new.turns ≤ run.old.turns }
 {
     let given = values(setting, calls, arguments, run)?;
-    let words = intrinsic(setting.alloc, name, scalar(t), &given)?;
+    let words = intrinsic(setting.alloc, name, t, &given)?;
     Ok(Spot::Value { words })
 }
 
@@ -544,6 +559,7 @@ fn kind<C: Calls>(
             Ok(input_place(at, &run.state))
         }
         TypedKind::Count => Ok(record_count(setting, &run.state)?),
+        TypedKind::Finished => Ok(one_word(setting, truth_word(setting.last))?),
         TypedKind::Handle { handle, index: at } => {
             let at = index(setting, calls, at, run)?;
             Ok(handle_place(setting, *handle, at, &run.state))

@@ -1,5 +1,5 @@
 -- What is left of a loop over the lanes of a launch, or over its phases.
-use Rattle.std.proofs.Common.{◌≡◌, ℕ, suc, ◌+◌, List, [], ◌∷◌, ◌++◌, length, take, drop, get_or, ◌-◌, ◌≤◌, ◌<◌, true, false, Err, append-nil, refl, sym, ap, ◌∙◌, arith}
+use Rattle.std.proofs.Common.{◌≡◌, ℕ, zero, suc, ◌+◌, List, [], ◌∷◌, ◌++◌, length, take, drop, get_or, map, if◌then◌else◌, ◌-◌, ◌≤◌, ◌<◌, true, false, Err, append-nil, refl, sym, ap, ◌∙◌, arith}
 use Rattle.std.proofs.Math.Seq.{take-suc}
 use Rattle.std.proofs.lemmas.List.{get_or-drop, length-drop, append_assoc, drop_more}
 use Rattle.wg_state.specs.Turns.{Ending, Spent, Done, Action, and_then, pure}
@@ -12,7 +12,11 @@ use Rattle.wg_typed.specs.declared.typed_stmt.TypedStmt.{TypedStmt}
 use Rattle.wg_machine.specs.declared.bodies.Halt.{Halt}
 use Rattle.wg_machine.specs.declared.bodies.Halt.TheVariants as halt
 use Rattle.wg_evaluation.specs.Says.{Stops}
-use Rattle.wg_semantics.specs.LaunchMeaning.{LaneActions, Phase, OnLanes, is_collective, lane_runs, lanes_run, phases_run, phases_after, after_run, first_lanes}
+use Rattle.std.specs.Prelude.{slice_set}
+use Rattle.wg_semantics.specs.declared.state.State.{State}
+use Rattle.wg_semantics.specs.LaunchMeaning.{LaneActions, OnLanes, Doing, tested, first_test, Part, part_of, lane_runs, lanes_run, phases_run, phases_after, after_run, first_lanes}
+use Rattle.wg_launch.proofs.Parts.{kept}
+use Rattle.wg_launch.specs.FirstLane.{IsFirst, with_first}
 use Rattle.wg_launch.specs.Launches.{Launches}
 
 -- ---- lanes
@@ -46,29 +50,73 @@ lanes_stop bodies n x items rest done w t halt.Memory e one = tt
 pub lanes_end : (bodies : LaneActions) (n : ℕ) (items done : List Lane) (w : World) (t : ℕ) → items ≡ [] → put_before done (lanes_run bodies n items w t) ≡ Done done w t
 lanes_end bodies n items done w t e = ap (λ l. put_before done (lanes_run bodies n l w t)) e ∙ ap (λ l. Done l w t) (append-nil done)
 
+-- ---- lane 0
+
+pub set_first : (lanes : List Lane) (lane : Lane) (f : Frame) → 0 < length lanes → lane ≡ get_or lanes 0 lane → slice_set lanes 0 (record { frame = f; returned = lane.returned }) ≡ with_first f lanes
+set_first [] lane f some is = absurd (let h : ⊥ = omega (arith, some) in h)
+set_first (x ∷ rest) lane f some is = ap (λ (y : Lane). record { frame = f; returned = y.returned } ∷ rest) is
+
+pub is_first : (lanes : List Lane) (lane : Lane) → 0 < length lanes → lane ≡ get_or lanes 0 lane → IsFirst lane.frame lanes
+is_first [] lane some is = absurd (let h : ⊥ = omega (arith, some) in h)
+is_first (x ∷ rest) lane some is = ap (λ (y : Lane). y.frame) is
+
+still_there : (lanes : List Lane) (f : Frame) → 0 < length lanes → 0 < length (with_first f lanes)
+still_there [] f some = some
+still_there (x ∷ rest) f some = omega arith
+
+module _ (m : Action State ℕ) (lanes : List Lane) (f : Frame) (w : World) (t : ℕ) (first : IsFirst f lanes) where
+  -- the lanes after a test on lane 0, which has a new frame
+  pub tests_first : (word : ℕ) (s : State) (u : ℕ) (g : Frame) (others last : List Lane) → m (record { frame = f; world = w }) t ≡ Done word s u → others ≡ with_first g lanes → last ≡ with_first s.frame others → first_test m lanes w t ≡ Done (word, last) s.world u
+  tests_first word s u g others last run lent back = after lanes first ∙ ap (λ l. Done (word, l) s.world u) (sym (back ∙ ap (with_first s.frame) lent))
+    where
+      after : (l : List Lane) → IsFirst f l → first_test m l w t ≡ Done (word, with_first s.frame (with_first g l)) s.world u
+      after [] none = absurd none
+      after (x ∷ rest) is = ap (λ y. tested x rest (m (record { frame = y; world = w }) t)) (sym is) ∙ ap (tested x rest) run
+
+  pub tests_stop : (h : Halt) → Stops (m (record { frame = f; world = w }) t) h → Stops (first_test m lanes w t) h
+  tests_stop halt.Memory stops = tt
+  tests_stop halt.Turns stops = after lanes first
+    where
+      after : (l : List Lane) → IsFirst f l → first_test m l w t ≡ Spent
+      after [] none = absurd none
+      after (x ∷ rest) is = ap (λ y. tested x rest (m (record { frame = y; world = w }) t)) (sym is) ∙ ap (tested x rest) stops
+
 -- ---- phases
 
-run_alone : (bodies : List TypedStmt → LaneActions) (more : List Phase) (o : Ending World (List Lane)) → and_then o (phases_run bodies more) ≡ and_then (and_then o (phases_run bodies [])) (phases_run bodies more)
-run_alone bodies more Spent = refl
-run_alone bodies more (Done lanes w t) = refl
+run_alone : (more : List OnLanes) (o : Ending World (List Lane)) → and_then o (phases_run more) ≡ and_then (and_then o (phases_run [])) (phases_run more)
+run_alone more Spent = refl
+run_alone more (Done lanes w t) = refl
 
-run_first : (bodies : List TypedStmt → LaneActions) (run : List TypedStmt) (more : List Phase) (lanes : List Lane) (w : World) (t : ℕ) → phases_run bodies (after_run run more) lanes w t ≡ and_then (phases_run bodies (after_run run []) lanes w t) (phases_run bodies more)
-run_first bodies [] more lanes w t = refl
-run_first bodies (s ∷ run) more lanes w t = run_alone bodies more (lanes_run (bodies (s ∷ run)) 0 lanes w t)
+module _ (doing : Doing) where
+  run_first : (run : List TypedStmt) (more : List OnLanes) (lanes : List Lane) (w : World) (t : ℕ) → phases_run (after_run doing run more) lanes w t ≡ and_then (phases_run (after_run doing run []) lanes w t) (phases_run more)
+  run_first [] more lanes w t = refl
+  run_first (s ∷ run) more lanes w t = run_alone more (lanes_run (doing.body (s ∷ run)) 0 lanes w t)
 
--- the statements before a collective one, and then that one
-abbrev two_run : (List TypedStmt → LaneActions) → List TypedStmt → TypedStmt → List Lane → Action World (List Lane)
-two_run bodies run x lanes w t = and_then (phases_run bodies (after_run run []) lanes w t) (phases_run bodies (after_run (x ∷ []) []))
+  abbrev part : TypedStmt → Part
+  part = part_of doing
 
-phases_next : (bodies : List TypedStmt → LaneActions) (run : List TypedStmt) (x : TypedStmt) (rest : List TypedStmt) (lanes : List Lane) (w : World) (t : ℕ) → is_collective x ≡ true → phases_run bodies (phases_after run (x ∷ rest)) lanes w t ≡ and_then (two_run bodies run x lanes w t) (phases_run bodies (phases_after [] rest))
-phases_next bodies run x rest lanes w t c = rw (c, run_first bodies run (OnLanes (x ∷ []) ∷ phases_after [] rest) lanes w t) (after (phases_run bodies (after_run run []) lanes w t))
-  where
-    after : (o : Ending World (List Lane)) → and_then o (phases_run bodies (OnLanes (x ∷ []) ∷ phases_after [] rest)) ≡ and_then (and_then o (phases_run bodies (after_run (x ∷ []) []))) (phases_run bodies (phases_after [] rest))
-    after Spent = refl
-    after (Done l1 w1 t1) = run_first bodies (x ∷ []) (phases_after [] rest) l1 w1 t1
+  -- the statements before a phase, and then that one
+  abbrev two_run : List TypedStmt → TypedStmt → List Lane → Action World (List Lane)
+  two_run run x lanes w t = and_then (phases_run (after_run doing run []) lanes w t) (part x).runs
 
-phases_longer : (run : List TypedStmt) (x : TypedStmt) (rest : List TypedStmt) → is_collective x ≡ false → phases_after run (x ∷ rest) ≡ phases_after (run ++ x ∷ []) rest
-phases_longer run x rest c = rw c refl
+  -- the phases of these statements after a run of others
+  abbrev pub rest_runs : List TypedStmt → List TypedStmt → List Lane → Action World (List Lane)
+  rest_runs run rest = phases_run (phases_after doing run (map part rest))
+
+  phases_next : (run : List TypedStmt) (x : TypedStmt) (rest : List TypedStmt) (lanes : List Lane) (w : World) (t : ℕ) → (part x).phase ≡ true → rest_runs run (x ∷ rest) lanes w t ≡ and_then (two_run run x lanes w t) (rest_runs [] rest)
+  phases_next run x rest lanes w t c =
+      ap (λ b. phases_run (if b then after_run doing run ((part x).runs ∷ phases_after doing [] (map part rest)) else phases_after doing (run ++ (part x).statement ∷ []) (map part rest)) lanes w t) c
+      ∙ run_first run ((part x).runs ∷ phases_after doing [] (map part rest)) lanes w t
+      ∙ after (phases_run (after_run doing run []) lanes w t)
+    where
+      after : (o : Ending World (List Lane)) → and_then o (phases_run ((part x).runs ∷ phases_after doing [] (map part rest))) ≡ and_then (and_then o (part x).runs) (rest_runs [] rest)
+      after Spent = refl
+      after (Done l1 w1 t1) = refl
+
+  phases_longer : (run : List TypedStmt) (x : TypedStmt) (rest : List TypedStmt) → (part x).phase ≡ false → rest_runs run (x ∷ rest) ≡ rest_runs (run ++ x ∷ []) rest
+  phases_longer run x rest c =
+      ap (λ b. phases_run (if b then after_run doing run ((part x).runs ∷ phases_after doing [] (map part rest)) else phases_after doing (run ++ (part x).statement ∷ []) (map part rest))) c
+      ∙ ap (λ y. rest_runs (run ++ y ∷ []) rest) (kept doing x)
 
 -- the statements from one number to another
 abbrev pub between : List TypedStmt → ℕ → ℕ → List TypedStmt
@@ -85,43 +133,52 @@ run_longer body from at x le lt is =
 cut_at : (body : List TypedStmt) (at : ℕ) (x : TypedStmt) → at < length body → x ≡ get_or body at x → drop at body ≡ x ∷ drop (at + 1) body
 cut_at body at x lt is = drop_more body at x lt ∙ ap (λ y. y ∷ drop (at + 1) body) (sym is)
 
-one_at : (body : List TypedStmt) (at : ℕ) (x : TypedStmt) → at < length body → x ≡ get_or body at x → between body at (at + 1) ≡ x ∷ []
-one_at body at x lt is =
-    let e : at + 1 - at ≡ 1 = omega arith in
-    ap (λ n. take n (drop at body)) e ∙ ap (take 1) (cut_at body at x lt is)
+get_same : (body : List TypedStmt) (at : ℕ) (x y : TypedStmt) → at < length body → get_or body at x ≡ get_or body at y
+get_same [] at x y lt = absurd (let h : ⊥ = omega (arith, lt) in h)
+get_same (z ∷ body) zero x y lt = refl
+get_same (z ∷ body) (suc at) x y lt = get_same body at x y (omega (arith, lt))
 
 none_at : (body : List TypedStmt) (at : ℕ) → between body at at ≡ []
 none_at body at = let e : at - at ≡ 0 = omega arith in ap (λ n. take n (drop at body)) e
 
-pub phases_plain : (body : List TypedStmt) (from at : ℕ) (x : TypedStmt) → from ≤ at → at < length body → x ≡ get_or body at x → is_collective x ≡ false → phases_after (between body from (at + 1)) (drop (at + 1) body) ≡ phases_after (between body from at) (drop at body)
-phases_plain body from at x le lt is c =
-    ap (λ run. phases_after run (drop (at + 1) body)) (run_longer body from at x le lt is)
-    ∙ sym (phases_longer (between body from at) x (drop (at + 1) body) c)
-    ∙ sym (ap (phases_after (between body from at)) (cut_at body at x lt is))
+module _ (doing : Doing) (body : List TypedStmt) (from at : ℕ) (x : TypedStmt) (lt : at < length body) (is : x ≡ get_or body at x) where
+  pub phases_plain : from ≤ at → (part_of doing x).phase ≡ false → rest_runs doing (between body from (at + 1)) (drop (at + 1) body) ≡ rest_runs doing (between body from at) (drop at body)
+  phases_plain le c =
+      ap (λ run. rest_runs doing run (drop (at + 1) body)) (run_longer body from at x le lt is)
+      ∙ sym (phases_longer doing (between body from at) x (drop (at + 1) body) c)
+      ∙ sym (ap (rest_runs doing (between body from at)) (cut_at body at x lt is))
 
--- the run of statements up to a collective one, and then that one
-abbrev pub both_run : (List TypedStmt → LaneActions) → List TypedStmt → ℕ → ℕ → List Lane → Action World (List Lane)
-both_run bodies body from at lanes w t = and_then (phases_run bodies (after_run (between body from at) []) lanes w t) (phases_run bodies (after_run (between body at (at + 1)) []))
+  module _ (lanes : List Lane) (w : World) (t : ℕ) (c : (part_of doing x).phase ≡ true) where
+    -- the run of statements up to a phase, and then that one
+    abbrev both : Ending World (List Lane)
+    both = and_then (phases_run (after_run doing (between body from at) []) lanes w t) (part_of doing x).runs
 
-pub phases_both : (bodies : List TypedStmt → LaneActions) (body : List TypedStmt) (from at : ℕ) (x : TypedStmt) (lanes : List Lane) (w : World) (t : ℕ) → at < length body → x ≡ get_or body at x → is_collective x ≡ true → phases_run bodies (phases_after (between body from at) (drop at body)) lanes w t ≡ and_then (both_run bodies body from at lanes w t) (phases_run bodies (phases_after [] (drop (at + 1) body)))
-phases_both bodies body from at x lanes w t lt is c =
-    let run = between body from at in
-    let rest = drop (at + 1) body in
-    ap (λ l. phases_run bodies (phases_after run l) lanes w t) (cut_at body at x lt is)
-    ∙ phases_next bodies run x rest lanes w t c
-    ∙ ap (λ l. and_then (and_then (phases_run bodies (after_run run []) lanes w t) (phases_run bodies (after_run l []))) (phases_run bodies (phases_after [] rest))) (sym (one_at body at x lt is))
+    phases_both : rest_runs doing (between body from at) (drop at body) lanes w t ≡ and_then both (rest_runs doing [] (drop (at + 1) body))
+    phases_both =
+        ap (λ l. rest_runs doing (between body from at) l lanes w t) (cut_at body at x lt is)
+        ∙ phases_next doing (between body from at) x (drop (at + 1) body) lanes w t c
 
-pub phases_on : (bodies : List TypedStmt → LaneActions) (body : List TypedStmt) (from at : ℕ) (x : TypedStmt) (lanes l2 : List Lane) (w w2 : World) (t t2 : ℕ) → at < length body → x ≡ get_or body at x → is_collective x ≡ true → both_run bodies body from at lanes w t ≡ Done l2 w2 t2 → phases_run bodies (phases_after (between body from at) (drop at body)) lanes w t ≡ phases_run bodies (phases_after (between body (at + 1) (at + 1)) (drop (at + 1) body)) l2 w2 t2
-phases_on bodies body from at x lanes l2 w w2 t t2 lt is c h =
-    phases_both bodies body from at x lanes w t lt is c
-    ∙ ap (λ (o : Ending World (List Lane)). and_then o (phases_run bodies (phases_after [] (drop (at + 1) body)))) h
-    ∙ ap (λ run. phases_run bodies (phases_after run (drop (at + 1) body)) l2 w2 t2) (sym (none_at body (at + 1)))
+    module _ (l1 : List Lane) (w1 : World) (t1 : ℕ) (before : phases_run (after_run doing (between body from at) []) lanes w t ≡ Done l1 w1 t1) where
+      pub phases_on : (l2 : List Lane) (w2 : World) (t2 : ℕ) (y : TypedStmt) → y ≡ get_or body at y → (part_of doing y).runs l1 w1 t1 ≡ Done l2 w2 t2 → rest_runs doing (between body from at) (drop at body) lanes w t ≡ rest_runs doing (between body (at + 1) (at + 1)) (drop (at + 1) body) l2 w2 t2
+      phases_on l2 w2 t2 y there h =
+          phases_both
+          ∙ ap (λ (o : Ending World (List Lane)). and_then (and_then o (part_of doing x).runs) (rest_runs doing [] (drop (at + 1) body))) before
+          ∙ ap (λ z. and_then ((part_of doing z).runs l1 w1 t1) (rest_runs doing [] (drop (at + 1) body))) (is ∙ get_same body at x y lt ∙ sym there)
+          ∙ ap (λ (o : Ending World (List Lane)). and_then o (rest_runs doing [] (drop (at + 1) body))) h
+          ∙ ap (λ run. rest_runs doing run (drop (at + 1) body) l2 w2 t2) (sym (none_at body (at + 1)))
 
-pub phases_stop : (bodies : List TypedStmt → LaneActions) (body : List TypedStmt) (from at : ℕ) (x : TypedStmt) (lanes : List Lane) (w : World) (t : ℕ) (h : Halt) → at < length body → x ≡ get_or body at x → is_collective x ≡ true → Stops (both_run bodies body from at lanes w t) h → Stops (phases_run bodies (phases_after (between body from at) (drop at body)) lanes w t) h
-phases_stop bodies body from at x lanes w t halt.Turns lt is c stops =
-    phases_both bodies body from at x lanes w t lt is c
-    ∙ ap (λ (o : Ending World (List Lane)). and_then o (phases_run bodies (phases_after [] (drop (at + 1) body)))) stops
-phases_stop bodies body from at x lanes w t halt.Memory lt is c stops = tt
+      pub phases_stop_at : (h : Halt) (y : TypedStmt) → y ≡ get_or body at y → Stops ((part_of doing y).runs l1 w1 t1) h → Stops (rest_runs doing (between body from at) (drop at body) lanes w t) h
+      phases_stop_at halt.Memory y there stops = tt
+      phases_stop_at halt.Turns y there stops =
+          phases_both
+          ∙ ap (λ (o : Ending World (List Lane)). and_then (and_then o (part_of doing x).runs) (rest_runs doing [] (drop (at + 1) body))) before
+          ∙ ap (λ z. and_then ((part_of doing z).runs l1 w1 t1) (rest_runs doing [] (drop (at + 1) body))) (is ∙ get_same body at x y lt ∙ sym there)
+          ∙ ap (λ (o : Ending World (List Lane)). and_then o (rest_runs doing [] (drop (at + 1) body))) stops
+
+    pub phases_stop_before : (h : Halt) → Stops (phases_run (after_run doing (between body from at) []) lanes w t) h → Stops (rest_runs doing (between body from at) (drop at body) lanes w t) h
+    phases_stop_before halt.Memory stops = tt
+    phases_stop_before halt.Turns stops =
+        phases_both ∙ ap (λ (o : Ending World (List Lane)). and_then (and_then o (part_of doing x).runs) (rest_runs doing [] (drop (at + 1) body))) stops
 
 -- ---- launches
 

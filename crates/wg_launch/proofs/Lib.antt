@@ -1,1 +1,2 @@
 pub mod LaneRuns
+pub mod Parts

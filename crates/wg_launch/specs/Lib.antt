@@ -1,1 +1,3 @@
+pub mod ByLanes
+pub mod FirstLane
 pub mod Launches

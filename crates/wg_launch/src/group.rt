@@ -7,7 +7,8 @@ ghost use Rattle.wg_state.specs.Launching.{world_before, new_words, outcome_with
 ghost use Rattle.wg_semantics.specs.LaunchMeaning.{first_frame, first_lanes, first_shared, function_made, body_made, made};
 ghost use Rattle.wg_launch.specs.Launches.{Launches};
 
-use crate::lanes::{Entry, no_frame, run_phases};
+use crate::lanes::{Entry, no_frame};
+use crate::phases::run_block;
 use crate::sent::all_sent;
 use crate::start::{LaneSpot, coordinates, frame, shared};
 use std::alloc::{AllocError, Global};
@@ -126,6 +127,7 @@ fn run_entry(
     buffers: WordLists,
     turns: u64,
 ) -> Result<(Made, WordLists), Halt>
+    requires last { entry.now.last ≡ launch.now.last }
     ensures { Launches (function_made entry.now.text.now (Some entry.now.function.now) entry.now.threads entry.now.unit.now launch.now buffers turns) result }
 {
     let count = match lane_count(entry.threads) {
@@ -140,7 +142,7 @@ fn run_entry(
         world,
     };
     let mut run = Run { state, turns };
-    match run_phases(entry, lanes, &mut run) {
+    match run_block(entry, entry.function.body.as_slice(), lanes, &mut run) {
         Ok(_) => (),
         Err(halt) => return Err(halt),
     }
@@ -188,6 +190,7 @@ fn launch_body(
                 function,
                 threads: body.threads,
                 unit,
+                last: launch.last,
             },
             launch,
             buffers,

@@ -1,6 +1,6 @@
-ghost use Rattle.std.specs.Prelude.{◌≡◌, []};
-ghost use Rattle.wg_state.specs.Turns.{and_then};
-ghost use Rattle.wg_semantics.specs.LaunchMeaning.{entry_setting, entry_does, has_returned, is_collective, lane_runs, lanes_run, phases_run, phases_of, after_run};
+ghost use Rattle.std.specs.Prelude.{◌≡◌, ◌<◌, length};
+ghost use Rattle.wg_launch.specs.FirstLane.{IsFirst, with_first};
+ghost use Rattle.wg_semantics.specs.LaunchMeaning.{entry_setting, entry_does, entry_test, has_returned, first_test, lane_runs, lanes_run};
 ghost use Rattle.wg_values.specs.Pieces.{setting_of};
 ghost use Rattle.wg_evaluation.specs.Says.{Says};
 
@@ -8,13 +8,14 @@ use std::alloc::Global;
 use std::mem;
 use wg_evaluation::Run;
 use wg_machine::{Halt, Unit};
-use wg_meaning::body;
+use wg_meaning::{body, test};
 use wg_semantics::{Flow, Frame, Lane};
-use wg_typed::{Typed, TypedFunction, TypedStmt};
+use wg_typed::{Typed, TypedExpr, TypedFunction, TypedStmt};
 use wg_values::{Setting, Structs};
 use wg_words::{Items, Word, WordLists};
 
-/// The entry function of a launch, with its text, the text's structs, its threads and its unit.
+/// The entry function of a launch, with its text, the text's structs, its threads and its unit, and whether it is the last of
+/// a shared record.
 #[derive(Clone, Copy)]
 pub struct Entry<'a> {
     pub alloc: Global,
@@ -23,11 +24,12 @@ pub struct Entry<'a> {
     pub function: &'a TypedFunction,
     pub threads: [Word; 3],
     pub unit: &'a Unit,
+    pub last: bool,
     ghost same: { structs.now ≡ text.now.structs },
 }
 
 fn setting_at<'a>(entry: &Entry<'a>, lane: u32) -> Setting<'a>
-    ensures setting { setting_of result ≡ entry_setting entry.now.text.now entry.now.function.now entry.now.unit.now lane }
+    ensures setting { setting_of result ≡ entry_setting entry.now.text.now entry.now.function.now entry.now.unit.now entry.now.last lane }
     ensures earlier { result.earlier.now ≡ entry.now.text.now.functions }
 {
     Setting {
@@ -36,6 +38,7 @@ fn setting_at<'a>(entry: &Entry<'a>, lane: u32) -> Setting<'a>
         handles: entry.function.handles.as_slice(),
         outputs: entry.unit.outputs.as_slice(),
         level: entry.unit.level,
+        last: entry.last,
         lane,
         earlier: entry.text.functions.as_slice(),
     }
@@ -64,7 +67,7 @@ fn run_body(
     number: u32,
     run: &mut Run,
 ) -> Result<Flow, Halt>
-    ensures { Says (entry_does entry.now.text.now entry.now.function.now entry.now.unit.now statements.now number run.old.state run.old.turns) result run.new.state run.new.turns }
+    ensures { Says (entry_does entry.now.text.now entry.now.function.now entry.now.unit.now entry.now.last statements.now number run.old.state run.old.turns) result run.new.state run.new.turns }
 {
     body(&setting_at(entry, number), statements, run)
 }
@@ -77,7 +80,7 @@ fn run_lane(
     lane: Lane,
     run: &mut Run,
 ) -> Result<Lane, Halt>
-    ensures { Says (lane_runs (entry_does entry.now.text.now entry.now.function.now entry.now.unit.now statements.now number) lane run.old.state.world run.old.turns) result run.new.state.world run.new.turns }
+    ensures { Says (lane_runs (entry_does entry.now.text.now entry.now.function.now entry.now.unit.now entry.now.last statements.now number) lane run.old.state.world run.old.turns) result run.new.state.world run.new.turns }
 {
     if lane.returned {
         return Ok(lane);
@@ -93,13 +96,13 @@ fn run_lane(
 
 /// Runs statements on the lanes, one after another.
 #[tactic(auto, using(crate::proofs::LaneRuns::lanes_end))]
-fn run_lanes(
+pub fn run_lanes(
     entry: &Entry<'_>,
     statements: &[TypedStmt],
     lanes: Items<Lane>,
     run: &mut Run,
 ) -> Result<Items<Lane>, Halt>
-    ensures { Says (lanes_run (entry_does entry.now.text.now entry.now.function.now entry.now.unit.now statements.now) 0 lanes run.old.state.world run.old.turns) result run.new.state.world run.new.turns }
+    ensures { Says (lanes_run (entry_does entry.now.text.now entry.now.function.now entry.now.unit.now entry.now.last statements.now) 0 lanes run.old.state.world run.old.turns) result run.new.state.world run.new.turns }
 {
     let mut done = Items::new(entry.alloc);
     let mut number: u32 = 0;
@@ -117,78 +120,39 @@ fn run_lanes(
     Ok(done)
 }
 
-/// A run of statements is a phase if there are any.
-fn run_some(
+/// Gives lane 0 another frame, and its own one back.
+#[tactic(auto, using(crate::proofs::LaneRuns::set_first, crate::proofs::LaneRuns::is_first))]
+fn swap_frame(list: &mut Vec<Lane>, frame: Frame) -> Frame
+    requires some { 0 < length list.old.items }
+    ensures value { IsFirst result list.old.items }
+    ensures after { list.new.items ≡ with_first frame list.old.items }
+{
+    let lane = &mut list[0];
+    mem::replace(&mut lane.frame, frame)
+}
+
+fn run_test(entry: &Entry<'_>, e: &TypedExpr, run: &mut Run) -> Result<Word, Halt>
+    ensures { Says (entry_test entry.now.text.now entry.now.function.now entry.now.unit.now entry.now.last e.now run.old.state run.old.turns) result run.new.state run.new.turns }
+{
+    test(&setting_at(entry, 0), e, run)
+}
+
+/// The word of a test on lane 0, and the lanes after it; 0 where there is no lane.
+pub fn test_first(
     entry: &Entry<'_>,
-    statements: &[TypedStmt],
+    e: &TypedExpr,
     lanes: Items<Lane>,
     run: &mut Run,
-) -> Result<Items<Lane>, Halt>
-    ensures { Says (phases_run (entry_does entry.now.text.now entry.now.function.now entry.now.unit.now) (after_run statements.now []) lanes run.old.state.world run.old.turns) result run.new.state.world run.new.turns }
+) -> Result<(Word, Items<Lane>), Halt>
+    ensures { Says (first_test (entry_test entry.now.text.now entry.now.function.now entry.now.unit.now entry.now.last e.now) lanes run.old.state.world run.old.turns) result run.new.state.world run.new.turns }
 {
-    if statements.is_empty() {
-        Ok(lanes)
-    } else {
-        run_lanes(entry, statements, lanes, run)
+    let mut list = lanes.into_vec();
+    if list.is_empty() {
+        return Ok((0, Items::from_vec(list)));
     }
-}
-
-fn is_phase(s: &TypedStmt) -> bool
-    ensures { result ≡ is_collective s.now }
-{
-    match s {
-        TypedStmt::Request { .. } | TypedStmt::Increment { .. } | TypedStmt::Complete { .. } =>
-            true,
-        TypedStmt::Barrier { syncs } => *syncs,
-        TypedStmt::Block { .. }
-        | TypedStmt::Empty
-        | TypedStmt::Declare { .. }
-        | TypedStmt::Step { .. }
-        | TypedStmt::Break
-        | TypedStmt::Continue
-        | TypedStmt::Return { .. }
-        | TypedStmt::If { .. }
-        | TypedStmt::While { .. }
-        | TypedStmt::For { .. } => false,
-    }
-}
-
-/// Runs the statements before a collective one, and then that one.
-fn run_two(
-    entry: &Entry<'_>,
-    before: &[TypedStmt],
-    collective: &[TypedStmt],
-    lanes: Items<Lane>,
-    run: &mut Run,
-) -> Result<Items<Lane>, Halt>
-    ensures { let bodies = entry_does entry.now.text.now entry.now.function.now entry.now.unit.now in
-        Says (and_then (phases_run bodies (after_run before.now []) lanes run.old.state.world run.old.turns) (phases_run bodies (after_run collective.now []))) result run.new.state.world run.new.turns }
-{
-    let lanes = run_some(entry, before, lanes, run)?;
-    run_some(entry, collective, lanes, run)
-}
-
-/// Runs the phases of the entry function, each on all lanes.
-pub fn run_phases(entry: &Entry<'_>, lanes: Items<Lane>, run: &mut Run) -> Result<Items<Lane>, Halt>
-    ensures { Says (phases_run (entry_does entry.now.text.now entry.now.function.now entry.now.unit.now) (phases_of entry.now.function.now.body) lanes run.old.state.world run.old.turns) result run.new.state.world run.new.turns }
-{
-    let statements = entry.function.body.as_slice();
-    let mut lanes = lanes;
-    let mut from = 0;
-    for at in 0..statements.len() {
-        if is_phase(&statements[at]) {
-            lanes = match run_two(
-                entry,
-                &statements[from..at],
-                &statements[at..at + 1],
-                lanes,
-                run,
-            ) {
-                Ok(lanes) => lanes,
-                Err(halt) => return Err(halt),
-            };
-            from = at + 1;
-        }
-    }
-    run_some(entry, &statements[from..], lanes, run)
+    run.state.frame = swap_frame(&mut list, no_frame(entry.alloc));
+    let word = run_test(entry, e, run)?;
+    let frame = mem::replace(&mut run.state.frame, no_frame(entry.alloc));
+    let _empty = swap_frame(&mut list, frame);
+    Ok((word, Items::from_vec(list)))
 }

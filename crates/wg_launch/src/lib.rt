@@ -3,6 +3,7 @@
 
 mod group;
 mod lanes;
+mod phases;
 mod sent;
 mod start;
 #[cfg(test)]

@@ -1,11 +1,10 @@
 ghost use Rattle.std.specs.Prelude.{◌≡◌, ◌*◌, ◌/◌, ◌%◌, IfOk, map, take};
-ghost use Rattle.wg_semantics.specs.LaunchMeaning.{system_named, system_words, entry_value, first_frame, first_shared};
+ghost use Rattle.wg_semantics.specs.LaunchMeaning.{system_words, entry_value, first_frame, first_shared};
 ghost use Rattle.wg_state.specs.Lanes.{coordinates_of, dispatch_of};
 
 use std::alloc::{AllocError, Global};
 use wg_semantics::Frame;
-use wg_tree::Named;
-use wg_typed::{TypedFunction, TypedParameter, TypedShared};
+use wg_typed::{SystemValue, TypedFunction, TypedParameter, TypedShared};
 use wg_values::{Structs, fresh, parameter_size, zero_value};
 use wg_words::{Word, WordLists, Words, add, mul};
 
@@ -49,42 +48,24 @@ fn dispatch(group: [Word; 3], threads: [Word; 3], lane: u32) -> [Word; 3]
     ]
 }
 
-/// The words of a system value by its name; none of an unknown one.
-fn named_value(
-    alloc: Global,
-    group: [Word; 3],
-    threads: [Word; 3],
-    lane: u32,
-    name: &[u8],
-) -> Result<Words, AllocError>
-    ensures { IfOk result (λ list. list ≡ system_named group threads lane name.now) }
-{
-    if name == b"SV_GroupID".as_slice() {
-        Words::from_slice(alloc, &group)
-    } else if name == b"SV_GroupThreadID".as_slice() {
-        Words::from_slice(alloc, &coordinates(threads, lane))
-    } else if name == b"SV_DispatchThreadID".as_slice() {
-        Words::from_slice(alloc, &dispatch(group, threads, lane))
-    } else if name == b"SV_GroupIndex".as_slice() {
-        Words::from_slice(alloc, &[lane])
-    } else {
-        Ok(Words::new(alloc))
-    }
-}
-
-/// The words of a parameter's system value, if it has one.
+/// The words of a system value, if a parameter has one.
 fn system_value(
     alloc: Global,
     group: [Word; 3],
     threads: [Word; 3],
     lane: u32,
-    semantic: &Option<Named>,
+    system: Option<SystemValue>,
 ) -> Result<Words, AllocError>
-    ensures { IfOk result (λ list. list ≡ system_words group threads lane semantic.now) }
+    ensures { IfOk result (λ list. list ≡ system_words group threads lane system) }
 {
-    match semantic {
-        Some(semantic) => named_value(alloc, group, threads, lane, semantic.name.as_slice()),
+    match system {
         None => Ok(Words::new(alloc)),
+        Some(SystemValue::GroupId) => Words::from_slice(alloc, &group),
+        Some(SystemValue::GroupThreadId) => Words::from_slice(alloc, &coordinates(threads, lane)),
+        Some(SystemValue::DispatchThreadId) => {
+            Words::from_slice(alloc, &dispatch(group, threads, lane))
+        }
+        Some(SystemValue::GroupIndex) => Words::from_slice(alloc, &[lane]),
     }
 }
 
@@ -115,7 +96,7 @@ fn parameter_value(
     ensures { IfOk result (λ list. list ≡ entry_value structs.now at.group at.threads at.lane p.now) }
 {
     let count = parameter_size(structs, p.of)?;
-    let words = system_value(alloc, at.group, at.threads, at.lane, &p.semantic)?;
+    let words = system_value(alloc, at.group, at.threads, at.lane, p.system)?;
     first_words(alloc, words.as_slice(), count)
 }
 

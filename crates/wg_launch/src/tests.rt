@@ -58,6 +58,7 @@ fn handles(alloc: Global) -> Built<Items<TypedHandle>> {
 
 fn fork(alloc: Global) -> Built<Typed> {
     let function = TypedFunction {
+        entry: None,
         attributes: Items::new(alloc),
         result: None,
         name: unnamed(alloc),

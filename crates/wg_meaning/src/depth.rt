@@ -1,5 +1,6 @@
 ghost use Rattle.std.specs.Prelude.{◌≡◌, IfOk};
 ghost use Rattle.wg_semantics.specs.FunctionMeaning.{callees_of};
+ghost use Rattle.wg_semantics.specs.ExprMeaning.{seen, word_of};
 ghost use Rattle.wg_semantics.specs.StmtMeaning.{body_does};
 ghost use Rattle.wg_values.specs.Pieces.{setting_of};
 ghost use Rattle.wg_meaning.specs.Reach.{reach_of};
@@ -9,12 +10,12 @@ use crate::functions::numbered;
 use crate::stmt::block;
 use sqlite_items::Boxed;
 use std::alloc::{AllocError, Global};
-use wg_evaluation::{Calls, Run};
+use wg_evaluation::{Calls, Run, word};
 use wg_machine::Halt;
 use wg_semantics::Flow;
-use wg_typed::TypedStmt;
+use wg_typed::{TypedExpr, TypedStmt};
 use wg_values::Setting;
-use wg_words::{WordLists, Words};
+use wg_words::{Word, WordLists, Words};
 
 /// How deep calls may nest.
 #[derive(Drop)]
@@ -57,6 +58,14 @@ fn depth_of(alloc: Global, count: usize) -> Result<Depth, AllocError>
         depth = Depth::Below(Boxed::new(alloc, depth)?);
     }
     Ok(depth)
+}
+
+/// The word of a test in a function that may call those before it.
+pub fn test(setting: &Setting<'_>, e: &TypedExpr, run: &mut Run) -> Result<Word, Halt>
+    ensures { Runs (word_of (setting_of setting.now) (seen (setting_of setting.now) (callees_of (setting_of setting.now) setting.now.earlier.now) e.now)) run.old result run.new }
+{
+    let depth = depth_of(setting.alloc, setting.earlier.len())?;
+    word(setting, &depth, e, run)
 }
 
 /// Runs statements of a function that may call those before it.

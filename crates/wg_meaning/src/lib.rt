@@ -6,4 +6,4 @@ mod functions;
 mod step;
 mod stmt;
 
-pub use depth::body;
+pub use depth::{body, test};

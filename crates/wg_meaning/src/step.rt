@@ -1,4 +1,5 @@
-ghost use Rattle.std.specs.Prelude.{◌≡◌, ◌≤◌, ◌/◌, IfOk};
+ghost use Rattle.std.specs.Prelude.{◌≡◌, ◌≤◌, ◌/◌, IfOk, false};
+ghost use Rattle.wg_typed.specs.Operators.{is_wide};
 ghost use Rattle.wg_semantics.specs.declared.state.Store.TheVariants as store;
 ghost use Rattle.wg_semantics.specs.declared.state.Spot.TheVariants as spot;
 ghost use Rattle.wg_semantics.specs.ExprMeaning.{seen};
@@ -18,8 +19,7 @@ use wg_typed::{
     TypedStep,
 };
 use wg_values::{
-    Setting, combine_all, convert, fetch, greater, lesser, scalar, step_all, word_at, write,
-    zero_value,
+    Setting, combine_all, convert, fetch, greater, lesser, step_all, word_at, write, zero_value,
 };
 use wg_words::{Word, Words, add};
 
@@ -59,7 +59,7 @@ fn update<C: Calls>(
     let both = combine_all(
         setting.alloc,
         operator,
-        scalar(by),
+        by,
         left.as_slice(),
         right.as_slice(),
     )?;
@@ -81,7 +81,7 @@ fn change<C: Calls>(
 {
     let at = spot(setting, calls, target, run)?;
     let words = fetch(setting, target.of, &at, &run.state)?;
-    let words = step_all(setting.alloc, operator, scalar(target.of), words.as_slice())?;
+    let words = step_all(setting.alloc, operator, target.of, words.as_slice())?;
     write(setting.alloc, &at, words.as_slice(), &mut run.state);
     Ok(())
 }
@@ -119,13 +119,15 @@ fn raw_store<C: Calls>(
 }
 
 fn kind_of_words(signed: bool) -> Scalar
-    ensures { result ≡ signedness signed }
+    ensures kind { result ≡ signedness signed }
+    ensures narrow { is_wide result ≡ false }
 {
     if signed { Scalar::Int } else { Scalar::Uint }
 }
 
 /// What an interlocked form leaves in place of the old word.
 fn exchange(form: InterlockedForm, s: Scalar, old: Word, compare: Word, value: Word) -> Word
+    requires narrow { is_wide s ≡ false }
     ensures { result ≡ exchanged form s old compare value }
 {
     match form {

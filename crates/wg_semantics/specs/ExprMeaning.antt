@@ -15,9 +15,9 @@ use Rattle.wg_typed.specs.declared.typed_expr.TypedLink.{TypedLink}
 use Rattle.wg_typed.specs.declared.typed_expr.Access.TheFolds.{fold-TypedExpr, fold-TypedKind, fold-Access, fold-TypedLink}
 use Rattle.wg_typed.specs.declared.typed_expr.Access.TheOpen.{TypedExpr-F, TypedKind-F, Access-F, TypedLink-F}
 use Rattle.wg_typed.specs.Layout.{words_of, field_range, put}
-use Rattle.wg_typed.specs.Operators.{scalar_of, converted, combined, prefixed, pairwise}
+use Rattle.wg_typed.specs.Operators.{converted, combined_words, prefixed_words}
 use Rattle.wg_words.specs.Truth.{is_true, truth}
-use Rattle.wg_typed.specs.Intrinsics.{called_with}
+use Rattle.wg_typed.specs.Intrinsics.{called_words}
 use Rattle.wg_semantics.specs.Places.{Setting, fetched, words_from, part_at, array_size, element_at, buffer_element, input_record, handle_record}
 use Rattle.wg_state.specs.WordLists.{zeros, list_at}
 use Rattle.wg_state.specs.Requests.{target_of}
@@ -71,13 +71,32 @@ pub record Linked : Type 0 where
   pub of : TypeTree
   pub next : TypeTree → List ℕ → Action State (List ℕ)
 
+-- the left words first, then the right operand
+abbrev pub with_right : Setting → BinaryOperator → TypeTree → Seen → List ℕ → Action State (List ℕ)
+with_right setting operator t e words = do
+  right ← value_of setting.structs e
+  pure (combined_words operator t words right)
+
 -- `&&` and `||` evaluate only what they need
 abbrev pub operated : Setting → BinaryOperator → TypeTree → Seen → List ℕ → Action State (List ℕ)
 operated setting binary.And t e words = when (slice_index words 0) (value_of setting.structs e) (pure (truth false ∷ []))
 operated setting binary.Or t e words = when (slice_index words 0) (pure (truth true ∷ [])) (value_of setting.structs e)
-operated setting operator t e words = do
-  right ← value_of setting.structs e
-  pure (pairwise (combined operator (scalar_of t)) words right)
+operated setting binary.Multiply t e words = with_right setting binary.Multiply t e words
+operated setting binary.Divide t e words = with_right setting binary.Divide t e words
+operated setting binary.Remainder t e words = with_right setting binary.Remainder t e words
+operated setting binary.Add t e words = with_right setting binary.Add t e words
+operated setting binary.Subtract t e words = with_right setting binary.Subtract t e words
+operated setting binary.ShiftLeft t e words = with_right setting binary.ShiftLeft t e words
+operated setting binary.ShiftRight t e words = with_right setting binary.ShiftRight t e words
+operated setting binary.Less t e words = with_right setting binary.Less t e words
+operated setting binary.Greater t e words = with_right setting binary.Greater t e words
+operated setting binary.AtMost t e words = with_right setting binary.AtMost t e words
+operated setting binary.AtLeast t e words = with_right setting binary.AtLeast t e words
+operated setting binary.Equal t e words = with_right setting binary.Equal t e words
+operated setting binary.NotEqual t e words = with_right setting binary.NotEqual t e words
+operated setting binary.BitAnd t e words = with_right setting binary.BitAnd t e words
+operated setting binary.BitXor t e words = with_right setting binary.BitXor t e words
+operated setting binary.BitOr t e words = with_right setting binary.BitOr t e words
 
 -- the left side is converted first, if it is of another type
 abbrev pub linked : Setting → BinaryOperator → Option TypeTree → Seen → TypeTree → List ℕ → Action State (List ℕ)
@@ -120,6 +139,7 @@ kind_step setting callees (TypedKind-F.Input index) t = do
   at ← index_of setting index
   read (input_record at)
 kind_step setting callees TypedKind-F.Count t = valued (read (λ s. length s.world.inputs ∷ []))
+kind_step setting callees TypedKind-F.Finished t = pure (spot.Value (truth setting.last ∷ []))
 kind_step setting callees (TypedKind-F.Handle handle index) t = do
   at ← index_of setting index
   read (handle_record setting handle at)
@@ -131,7 +151,7 @@ kind_step setting callees TypedKind-F.Zeros t = pure (spot.Value (zeros (words_o
 kind_step setting callees (TypedKind-F.Access base forms) t = base.spot >>= followed forms base.of
 kind_step setting callees (TypedKind-F.Prefix operator operand) t = do
   words ← value_of setting.structs operand
-  pure (spot.Value (map (prefixed operator (scalar_of t)) words))
+  pure (spot.Value (prefixed_words operator t words))
 kind_step setting callees (TypedKind-F.Convert operand) t = do
   words ← value_of setting.structs operand
   pure (spot.Value (converted operand.of t words))
@@ -148,7 +168,7 @@ kind_step setting callees (TypedKind-F.Call function arguments) t =
     valued (called setting.structs (callee_at callees function) arguments)
 kind_step setting callees (TypedKind-F.Intrinsic call arguments) t = do
   values ← each (map (value_of setting.structs) arguments)
-  pure (spot.Value (called_with call (scalar_of t) values))
+  pure (spot.Value (called_words call t values))
 
 -- ---- whole trees, where the functions before have these meanings
 

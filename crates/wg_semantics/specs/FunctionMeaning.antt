@@ -7,6 +7,7 @@ use Rattle.wg_semantics.specs.declared.state.Flow.{Flow}
 use Rattle.wg_semantics.specs.declared.state.Flow.TheVariants as flow
 use Rattle.wg_typed.specs.declared.types.TypeTree.{TypeTree}
 use Rattle.wg_typed.specs.declared.typed.TypedFunction.{TypedFunction}
+use Rattle.wg_typed.specs.declared.typed.TypedLocal.{TypedLocal}
 use Rattle.wg_typed.specs.declared.typed.TypedStruct.{TypedStruct}
 use Rattle.wg_typed.specs.Layout.{words_of}
 use Rattle.wg_semantics.specs.Places.{Setting}
@@ -14,9 +15,9 @@ use Rattle.wg_state.specs.WordLists.{zeros}
 use Rattle.wg_semantics.specs.Calls.{Callee}
 use Rattle.wg_semantics.specs.StmtMeaning.{body_does}
 
--- the values of locals of these types before they are declared
-abbrev pub fresh_locals : List TypedStruct → List TypeTree → List (List ℕ)
-fresh_locals structs types = map (λ t. zeros (words_of structs t)) types
+-- the values of locals before they are declared
+abbrev pub fresh_locals : List TypedStruct → List TypedLocal → List (List ℕ)
+fresh_locals structs locals = map (λ (l : TypedLocal). zeros (words_of structs l.of)) locals
 
 -- `void` has no words
 abbrev pub result_words : List TypedStruct → Option TypeTree → ℕ

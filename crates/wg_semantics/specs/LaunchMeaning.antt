@@ -1,7 +1,6 @@
 -- What a launch of a node does, on the typed text (Work Graphs, "Thread launch nodes", "Output records"). That a launch runs in phases,
 -- in each of which its lanes go one after another, is this project's own rule.
-use Rattle.std.specs.Prelude.{ℕ, zero, suc, Bool, true, false, if◌then◌else◌, List, [], ◌∷◌, ◌++◌, map, slice_get, take, codes, Option, Some, None}
-use Rattle.std.specs.Str.{bytes_eq}
+use Rattle.std.specs.Prelude.{ℕ, zero, suc, Bool, true, false, if◌then◌else◌, List, [], ◌∷◌, ◌++◌, map, slice_get, take, ◌||◌, Option, Some, None}
 use Rattle.wg_machine.specs.declared.launch.Launch.{Launch}
 use Rattle.wg_machine.specs.declared.shape.Shape.{Shape}
 use Rattle.wg_machine.specs.declared.shape.Unit.{Unit as Node}
@@ -11,7 +10,7 @@ use Rattle.wg_state.specs.Launching.{world_before, outcome_after, does_nothing}
 use Rattle.wg_state.specs.Turns.{Ending, Spent, Done, Action, ◌>>=◌, pure}
 use Rattle.wg_state.specs.WordLists.{zeros}
 use Rattle.wg_state.specs.declared.world.World.{World}
-use Rattle.wg_tree.specs.declared.expr.Named.{Named}
+use Rattle.wg_words.specs.Truth.{is_true}
 use Rattle.wg_semantics.specs.declared.state.Body.{Body}
 use Rattle.wg_semantics.specs.declared.state.Frame.{Frame}
 use Rattle.wg_semantics.specs.declared.state.State.{State}
@@ -23,45 +22,21 @@ use Rattle.wg_typed.specs.declared.typed.TypedFunction.{TypedFunction}
 use Rattle.wg_typed.specs.declared.typed.TypedParameter.{TypedParameter}
 use Rattle.wg_typed.specs.declared.typed.TypedShared.{TypedShared}
 use Rattle.wg_typed.specs.declared.typed.TypedStruct.{TypedStruct}
-use Rattle.wg_typed.specs.declared.typed_stmt.TypedStmt.{TypedStmt}
+use Rattle.wg_typed.specs.declared.typed.SystemValue.{SystemValue}
+use Rattle.wg_typed.specs.declared.typed.SystemValue.TheVariants as system
+use Rattle.wg_typed.specs.declared.typed_expr.TypedExpr.{TypedExpr}
+use Rattle.wg_typed.specs.declared.typed_expr.Access.TheFolds.{fold-TypedExpr}
+use Rattle.wg_typed.specs.declared.typed_expr.Access.TheOpen.{TypedKind-F}
+use Rattle.wg_typed.specs.declared.typed_stmt.TypedDeclarator.{TypedDeclarator}
+use Rattle.wg_typed.specs.declared.typed_stmt.TypedStmt.{TypedStmt, roll-TypedStmt, map-TypedStmt}
 use Rattle.wg_typed.specs.declared.typed_stmt.TypedStmt.TheFolds.{fold-TypedStmt}
 use Rattle.wg_typed.specs.declared.typed_stmt.TypedStmt.TheOpen.{TypedStmt-F}
 use Rattle.wg_typed.specs.Layout.{words_of}
 use Rattle.wg_semantics.specs.Places.{Setting}
-use Rattle.wg_semantics.specs.Calls.{parameter_words}
+use Rattle.wg_semantics.specs.Calls.{Callee, parameter_words}
+use Rattle.wg_semantics.specs.ExprMeaning.{seen, word_of}
 use Rattle.wg_semantics.specs.StmtMeaning.{body_does}
 use Rattle.wg_semantics.specs.FunctionMeaning.{fresh_locals, callees_of}
-
--- ---- phases
-
--- A run of statements that each lane goes through. A collective `if` will be one more case.
-pub data Phase : Type 0 where
-  OnLanes : List TypedStmt → Phase
-
--- a handle's request, an increment, an `OutputComplete` or a barrier that syncs
-abbrev pub collective_step : TypedStmt-F Bool → Bool
-collective_step (TypedStmt-F.Request handle group output element amount) = true
-collective_step (TypedStmt-F.Increment group output element amount) = true
-collective_step (TypedStmt-F.Complete handle) = true
-collective_step (TypedStmt-F.Barrier syncs) = syncs
-collective_step _ = false
-
-abbrev pub is_collective : TypedStmt → Bool
-is_collective = fold-TypedStmt Bool collective_step
-
--- a run of statements, if there are any, before other phases
-abbrev pub after_run : List TypedStmt → List Phase → List Phase
-after_run [] phases = phases
-after_run (s ∷ run) phases = OnLanes (s ∷ run) ∷ phases
-
-abbrev pub phases_after : List TypedStmt → List TypedStmt → List Phase
-phases_after run [] = after_run run []
-phases_after run (s ∷ rest) =
-    if is_collective s then after_run run (OnLanes (s ∷ []) ∷ phases_after [] rest) else phases_after (run ++ s ∷ []) rest
-
--- Each direct collective statement of a body is a phase, and so is each run of statements between two of them.
-abbrev pub phases_of : List TypedStmt → List Phase
-phases_of body = phases_after [] body
 
 -- ---- lanes
 
@@ -90,31 +65,150 @@ lanes_run bodies at (lane ∷ rest) = do
   others ← lanes_run bodies (suc at) rest
   pure (first ∷ others)
 
-abbrev pub phase_runs : (List TypedStmt → LaneActions) → Phase → List Lane → Action World (List Lane)
-phase_runs bodies (OnLanes body) lanes = lanes_run (bodies body) 0 lanes
+-- ---- the phases of a block
 
-abbrev pub phases_run : (List TypedStmt → LaneActions) → List Phase → List Lane → Action World (List Lane)
-phases_run bodies [] lanes = pure lanes
-phases_run bodies (phase ∷ rest) lanes = phase_runs bodies phase lanes >>= phases_run bodies rest
+-- what a launch does on all its lanes
+abbrev pub OnLanes : Type 0
+OnLanes = List Lane → Action World (List Lane)
+
+-- what each lane does with statements, and the word of a test on lane 0
+pub record Doing : Type 0 where
+  pub body : List TypedStmt → LaneActions
+  pub test : TypedExpr → Action State ℕ
+
+-- a statement with whether it is a phase of its own, and with what it does on all lanes where it stands alone
+pub record Part : Type 0 where
+  pub statement : TypedStmt
+  pub phase : Bool
+  pub runs : OnLanes
+
+-- a run of statements, if there are any, before other phases
+abbrev pub after_run : Doing → List TypedStmt → List OnLanes → List OnLanes
+after_run doing [] phases = phases
+after_run doing (s ∷ run) phases = lanes_run (doing.body (s ∷ run)) 0 ∷ phases
+
+abbrev pub phases_after : Doing → List TypedStmt → List Part → List OnLanes
+phases_after doing run [] = after_run doing run []
+phases_after doing run (p ∷ rest) =
+    if p.phase then after_run doing run (p.runs ∷ phases_after doing [] rest) else phases_after doing (run ++ p.statement ∷ []) rest
+
+abbrev pub phases_run : List OnLanes → OnLanes
+phases_run [] lanes = pure lanes
+phases_run (phase ∷ rest) lanes = phase lanes >>= phases_run rest
+
+-- Each phase of a block is a statement that is one of its own, or a run of statements between two of them.
+abbrev pub block_runs : Doing → List Part → OnLanes
+block_runs doing parts = phases_run (phases_after doing [] parts)
+
+-- ---- the choice of a collective `if`
+
+abbrev pub tested : Lane → List Lane → Ending State ℕ → Ending World (ℕ × List Lane)
+tested lane rest Spent = Spent
+tested lane rest (Done word s t) = Done (word, record { frame = s.frame; returned = lane.returned } ∷ rest) s.world t
+
+-- a test's word on lane 0, and the lanes after the test; 0 where there is no lane
+abbrev pub first_test : Action State ℕ → List Lane → Action World (ℕ × List Lane)
+first_test test [] = pure (0, [])
+first_test test (lane ∷ rest) = λ w t. tested lane rest (test (record { frame = lane.frame; world = w }) t)
+
+-- one of two by a word, on the lanes after the test
+abbrev pub by_word : OnLanes → OnLanes → ℕ × List Lane → Action World (List Lane)
+by_word first other test = if is_true test.0 then first test.1 else other test.1
+
+-- a collective `if` takes the block that its condition's value on lane 0 chooses
+abbrev pub chosen : Action State ℕ → OnLanes → OnLanes → OnLanes
+chosen test first other lanes = first_test test lanes >>= by_word first other
+
+-- ---- what a statement is to a launch
+
+-- a part of a run, a block, a phase of its own, or a collective `if`
+pub data Form (A : Type 0) : Type 0 where
+  Plain : Form A
+  Nested : List A → Form A
+  Collective : Form A
+  Chosen : TypedExpr → A → Option A → Form A
+
+abbrev pub is_last_kind : TypedKind-F (Unit {0}) Bool Bool (Unit {0}) → Bool
+is_last_kind TypedKind-F.Finished = true
+is_last_kind _ = false
+
+-- whether an expression is `FinishedCrossGroupSharing()`
+abbrev pub is_last : TypedExpr → Bool
+is_last = fold-TypedExpr (Unit {0}) Bool Bool (Unit {0}) (λ form. tt) is_last_kind (λ e. e.kind) (λ link. tt)
+
+abbrev pub starts_last : Option TypedExpr → Bool
+starts_last None = false
+starts_last (Some e) = is_last e
+
+abbrev pub declares_last : List TypedDeclarator → Bool
+declares_last [] = false
+declares_last (d ∷ rest) = starts_last d.value || declares_last rest
+
+-- Collective are a handle's request, an increment, an `OutputComplete`, a barrier that syncs, and the declaration that starts with
+-- `FinishedCrossGroupSharing()`; an `if` where it is marked.
+abbrev pub form_of : {A : Type 0} → TypedStmt-F A → Form A
+form_of (TypedStmt-F.Block body) = Nested body
+form_of TypedStmt-F.Empty = Plain
+form_of (TypedStmt-F.Declare declared) = if declares_last declared then Collective else Plain
+form_of (TypedStmt-F.Request handle group output element amount) = Collective
+form_of (TypedStmt-F.Increment group output element amount) = Collective
+form_of (TypedStmt-F.Complete handle) = Collective
+form_of (TypedStmt-F.Barrier syncs) = if syncs then Collective else Plain
+form_of (TypedStmt-F.Step step) = Plain
+form_of TypedStmt-F.Break = Plain
+form_of TypedStmt-F.Continue = Plain
+form_of (TypedStmt-F.Return value) = Plain
+form_of (TypedStmt-F.If attributes collective test first other) = if collective then Chosen test first other else Plain
+form_of (TypedStmt-F.While attributes test body) = Plain
+form_of (TypedStmt-F.For attributes start test steps body) = Plain
+
+abbrev pub is_phase : Form Part → Bool
+is_phase Plain = false
+is_phase (Nested body) = false
+is_phase Collective = true
+is_phase (Chosen test first other) = true
+
+-- an `if` without `else` does nothing else
+abbrev pub other_runs : Option Part → OnLanes
+other_runs None = pure
+other_runs (Some p) = p.runs
+
+abbrev pub form_runs : Doing → TypedStmt → Form Part → OnLanes
+form_runs doing statement Plain = lanes_run (doing.body (statement ∷ [])) 0
+form_runs doing statement (Nested body) = block_runs doing body
+form_runs doing statement Collective = lanes_run (doing.body (statement ∷ [])) 0
+form_runs doing statement (Chosen test first other) = chosen (doing.test test) first.runs (other_runs other)
+
+abbrev pub statement_of : TypedStmt-F Part → TypedStmt
+statement_of layer = roll-TypedStmt (map-TypedStmt Part TypedStmt (λ p. p.statement) layer)
+
+abbrev pub part_step : Doing → TypedStmt-F Part → Part
+part_step doing layer = record {
+  statement = statement_of layer;
+  phase = is_phase (form_of layer);
+  runs = form_runs doing (statement_of layer) (form_of layer);
+}
+
+abbrev pub part_of : Doing → TypedStmt → Part
+part_of doing = fold-TypedStmt Part (part_step doing)
+
+-- the body of an entry function
+abbrev pub body_runs : Doing → List TypedStmt → OnLanes
+body_runs doing body = block_runs doing (map (part_of doing) body)
 
 -- ---- what a lane begins with
 
--- the words of a system value; none of an unknown one
-abbrev pub system_named : List ℕ → List ℕ → ℕ → List ℕ → List ℕ
-system_named group threads lane name =
-    if bytes_eq name (codes "SV_GroupID") then group
-    else if bytes_eq name (codes "SV_GroupThreadID") then coordinates_of threads lane
-    else if bytes_eq name (codes "SV_DispatchThreadID") then dispatch_of group threads lane
-    else if bytes_eq name (codes "SV_GroupIndex") then lane ∷ []
-    else []
-
-abbrev pub system_words : List ℕ → List ℕ → ℕ → Option Named → List ℕ
+-- the words of a system value; none where a parameter has none
+abbrev pub system_words : List ℕ → List ℕ → ℕ → Option SystemValue → List ℕ
 system_words group threads lane None = []
-system_words group threads lane (Some semantic) = system_named group threads lane semantic.name
+system_words group threads lane (Some system.DispatchThreadId) = dispatch_of group threads lane
+system_words group threads lane (Some system.GroupId) = group
+system_words group threads lane (Some system.GroupThreadId) = coordinates_of threads lane
+system_words group threads lane (Some system.GroupIndex) = lane ∷ []
 
 -- a parameter of an entry function: the first components of its system value; an object has no words
 abbrev pub entry_value : List TypedStruct → List ℕ → List ℕ → ℕ → TypedParameter → List ℕ
-entry_value structs group threads lane p = take (parameter_words structs p.of) (system_words group threads lane p.semantic)
+entry_value structs group threads lane p = take (parameter_words structs p.of) (system_words group threads lane p.system)
 
 abbrev pub first_frame : List TypedStruct → TypedFunction → List ℕ → List ℕ → ℕ → Frame
 first_frame structs f group threads lane =
@@ -130,22 +224,30 @@ first_shared structs variables = map (λ (v : TypedShared). zeros (words_of stru
 
 -- ---- a launch
 
-abbrev pub entry_setting : Typed → TypedFunction → Node → ℕ → Setting
-entry_setting text f unit lane =
-    record { structs = text.structs; handles = f.handles; outputs = unit.outputs; level = unit.level; lane = lane }
+abbrev pub entry_setting : Typed → TypedFunction → Node → Bool → ℕ → Setting
+entry_setting text f unit last lane =
+    record { structs = text.structs; handles = f.handles; outputs = unit.outputs; level = unit.level; last = last; lane = lane }
+
+abbrev pub entry_callees : Typed → TypedFunction → Node → Bool → ℕ → List Callee
+entry_callees text f unit last lane = callees_of (entry_setting text f unit last lane) text.functions
 
 -- what statements of an entry function do on each lane
-abbrev pub entry_does : Typed → TypedFunction → Node → List TypedStmt → LaneActions
-entry_does text f unit body lane =
-    body_does (entry_setting text f unit lane) (callees_of (entry_setting text f unit lane) text.functions) body
+abbrev pub entry_does : Typed → TypedFunction → Node → Bool → List TypedStmt → LaneActions
+entry_does text f unit last body lane = body_does (entry_setting text f unit last lane) (entry_callees text f unit last lane) body
+
+-- the word of an expression of it on lane 0
+abbrev pub entry_test : Typed → TypedFunction → Node → Bool → TypedExpr → Action State ℕ
+entry_test text f unit last e = word_of (entry_setting text f unit last 0) (seen (entry_setting text f unit last 0) (entry_callees text f unit last 0) e)
+
+abbrev pub entry_doing : Typed → TypedFunction → Node → Bool → Doing
+entry_doing text f unit last = record { body = entry_does text f unit last; test = entry_test text f unit last }
 
 abbrev pub entry_lanes : Typed → TypedFunction → List ℕ → Launch → List Lane
 entry_lanes text f threads launch =
     first_lanes (first_frame text.structs f (coordinates_of launch.grid launch.group) threads) 0 (lanes_in threads)
 
 abbrev pub entry_runs : Typed → TypedFunction → List ℕ → Node → Launch → Action World (List Lane)
-entry_runs text f threads unit launch =
-    phases_run (entry_does text f unit) (phases_of f.body) (entry_lanes text f threads launch)
+entry_runs text f threads unit launch = body_runs (entry_doing text f unit launch.last) f.body (entry_lanes text f threads launch)
 
 -- a body of an unknown function does nothing
 abbrev pub function_made : Typed → Option TypedFunction → List ℕ → Node → Meaning

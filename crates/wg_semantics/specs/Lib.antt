@@ -5,4 +5,3 @@ pub mod LaunchMeaning
 pub mod Places
 pub mod StepMeaning
 pub mod StmtMeaning
-pub mod Truths

@@ -1,5 +1,5 @@
 -- Where values stand, and how they are read and written there. Reading outside gives zeros, and writing there does nothing; own.
-use Rattle.std.specs.Prelude.{ℕ, zero, suc, ◌+◌, ◌*◌, nat_lt, nat_le, if◌then◌else◌, List, [], ◌∷◌, length, slice_get, slice_index, slice_set, Option, Some, None}
+use Rattle.std.specs.Prelude.{ℕ, Bool, zero, suc, ◌+◌, ◌*◌, nat_lt, nat_le, if◌then◌else◌, List, [], ◌∷◌, length, slice_get, slice_index, slice_set, Option, Some, None}
 use Rattle.wg_semantics.specs.declared.state.Frame.{Frame}
 use Rattle.wg_state.specs.declared.world.World.{World}
 use Rattle.wg_semantics.specs.declared.state.State.{State}
@@ -16,14 +16,16 @@ use Rattle.wg_typed.specs.declared.typed.TypedHandle.{TypedHandle}
 use Rattle.wg_typed.specs.Layout.{Range, words_of, words_in}
 use Rattle.wg_state.specs.Requests.{latest}
 use Rattle.wg_state.specs.WordLists.{zeros, list_at}
-use Rattle.wg_semantics.specs.Truths.{truths_in, cleaned}
+use Rattle.wg_typed.specs.Marks.{marks_in, cleaned}
 
--- what stays the same while a lane runs: the text's structs, the entry function's handles, its unit's outputs and level, and the lane's number
+-- what stays the same while a lane runs: the text's structs, the entry function's handles, its unit's outputs and level, whether the launch
+-- is the last of a shared record, and the lane's number
 pub record Setting : Type 0 where
   pub structs : List TypedStruct
   pub handles : List TypedHandle
   pub outputs : List Output
   pub level : ℕ
+  pub last : Bool
   pub lane : ℕ
 
 -- ---- words
@@ -76,10 +78,14 @@ with_stored (store.Granted grant item) words = in_world (λ w. record w { grants
 
 -- ---- reading and writing
 
--- a `bool` of a buffer is made 0 or 1 as it is read
+-- what a buffer or a record of the input holds is made a value of the type as it is read
 abbrev pub as_read : Store → List TypedStruct → TypeTree → List ℕ → List ℕ
-as_read (store.Buffer buffer) structs t words = cleaned (truths_in structs t) words
-as_read _ structs t words = words
+as_read (store.Local local) structs t words = words
+as_read (store.Parameter parameter) structs t words = words
+as_read (store.Shared variable) structs t words = words
+as_read (store.Buffer buffer) structs t words = cleaned (marks_in structs t) words
+as_read (store.Input number) structs t words = cleaned (marks_in structs t) words
+as_read (store.Granted grant item) structs t words = words
 
 -- the words of a value of the type
 abbrev pub fetched : List TypedStruct → TypeTree → Spot → State → List ℕ
@@ -102,7 +108,9 @@ part_at r spot.Nowhere = spot.Nowhere
 
 abbrev pub array_size : TypeTree → ℕ
 array_size (type.Array of size) = size
-array_size _ = 0
+array_size (type.Scalar of) = 0
+array_size (type.Vector of size) = 0
+array_size (type.Struct number) = 0
 
 -- an element of an array; its type has so many words
 abbrev pub element_at : ℕ → ℕ → ℕ → Spot → Spot

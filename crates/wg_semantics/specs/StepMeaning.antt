@@ -24,7 +24,7 @@ use Rattle.wg_typed.specs.declared.typed_stmt.InterlockedForm.TheVariants as for
 use Rattle.wg_typed.specs.declared.typed_stmt.Destination.{Destination}
 use Rattle.wg_typed.specs.declared.typed_stmt.Destination.TheVariants as destination
 use Rattle.wg_typed.specs.Layout.{words_of}
-use Rattle.wg_typed.specs.Operators.{scalar_of, converted, combined, stepped, pairwise}
+use Rattle.wg_typed.specs.Operators.{converted, combined_words, stepped_words}
 use Rattle.wg_typed.specs.Intrinsics.{least, greatest}
 use Rattle.wg_semantics.specs.Places.{Setting, fetched, written}
 use Rattle.wg_state.specs.WordLists.{zeros}
@@ -49,13 +49,13 @@ updated setting target operator by value = do
   p ← target.spot
   right ← value_of setting.structs value
   left ← read (fetched setting.structs target.of p)
-  store_at p (converted by target.of (pairwise (combined operator (scalar_of by)) (converted target.of by left) right))
+  store_at p (converted by target.of (combined_words operator by (converted target.of by left) right))
 
 abbrev pub changed : Setting → Seen → StepOperator → Action State (Unit {0})
 changed setting target operator = do
   p ← target.spot
   words ← read (fetched setting.structs target.of p)
-  store_at p (map (stepped operator (scalar_of target.of)) words)
+  store_at p (stepped_words operator target.of words)
 
 -- a word of a raw buffer, by an address in bytes
 abbrev pub raw_word : ℕ → ℕ → Spot

@@ -1,3 +1,4 @@
-pub mod Capping
 pub mod Lists
-pub mod Marks
+pub mod MarkLoops
+pub mod OneNumber
+pub mod StructLoops

@@ -1,30 +1,43 @@
-ghost use Rattle.std.specs.Prelude.{◌≡◌, IfOk, if◌then◌else◌, map};
-ghost use Rattle.wg_typed.specs.Operators.{pairwise};
+ghost use Rattle.std.specs.Prelude.{◌≡◌, IfOk, false, if◌then◌else◌, map};
+ghost use Rattle.wg_typed.specs.Operators.{is_wide, is_less, pairwise};
 ghost use Rattle.wg_words.specs.Truth.{is_true};
-ghost use Rattle.wg_typed.specs.Intrinsics.{least, greatest, absolute, is_any_true, are_all_true, selected, argument, called_with};
+ghost use Rattle.wg_typed.specs.Intrinsics.{least, greatest, absolute, is_any_true, are_all_true, selected, argument, called_with, called_words};
 ghost use Rattle.wg_values.specs.PerWord.{one_word, two_words};
 
-use crate::operators::{less, truth_word};
+use crate::operators::{combine_narrow, scalar, truth_word};
+use crate::wide::{is_of_wide, wide_call};
 use std::alloc::{AllocError, Global};
-use wg_tree::Scalar;
-use wg_typed::Intrinsic;
+use wg_tree::{BinaryOperator, Scalar};
+use wg_typed::{Intrinsic, TypeTree};
 use wg_words::{Word, WordLists, Words, add, count_bits, first_high, first_low, mul, reverse, sub};
 
-/// The lesser of two words of a scalar.
+/// Whether a word of a scalar of 32 bits is less than another.
+fn less(s: Scalar, a: Word, b: Word) -> bool
+    requires narrow { is_wide s ≡ false }
+    ensures { result ≡ is_less s a b }
+{
+    combine_narrow(BinaryOperator::Less, s, a, b) != 0
+}
+
+/// The lesser of two words of a scalar of 32 bits.
 pub fn lesser(s: Scalar, a: Word, b: Word) -> Word
+    requires narrow { is_wide s ≡ false }
     ensures { result ≡ least s a b }
 {
     if less(s, b, a) { b } else { a }
 }
 
-/// The greater of two words of a scalar.
+/// The greater of two words of a scalar of 32 bits.
 pub fn greater(s: Scalar, a: Word, b: Word) -> Word
+    requires narrow { is_wide s ≡ false }
     ensures { result ≡ greatest s a b }
 {
     if less(s, a, b) { b } else { a }
 }
 
+#[tactic(auto, using(crate::proofs::OneNumber::narrow_width))]
 fn magnitude(s: Scalar, a: Word) -> Word
+    requires narrow { is_wide s ≡ false }
     ensures { result ≡ absolute s a }
 {
     if less(s, a, 0) { sub(0, a) } else { a }
@@ -51,7 +64,9 @@ pub enum OfTwo {
     Either,
 }
 
+#[tactic(auto, using(crate::proofs::OneNumber::narrow_width))]
 fn of_one(call: OfOne, s: Scalar, a: Word) -> Word
+    requires narrow { is_wide s ≡ false }
     ensures { result ≡ one_word call s a }
 {
     match call {
@@ -63,7 +78,9 @@ fn of_one(call: OfOne, s: Scalar, a: Word) -> Word
     }
 }
 
+#[tactic(auto, using(crate::proofs::OneNumber::narrow_width))]
 fn of_two(call: OfTwo, s: Scalar, a: Word, b: Word) -> Word
+    requires narrow { is_wide s ≡ false }
     ensures { result ≡ two_words call s a b }
 {
     match call {
@@ -77,6 +94,7 @@ fn of_two(call: OfTwo, s: Scalar, a: Word, b: Word) -> Word
 }
 
 fn each_word(alloc: Global, call: OfOne, s: Scalar, a: &[Word]) -> Result<Words, AllocError>
+    requires narrow { is_wide s ≡ false }
     ensures { IfOk result (λ list. list ≡ map (one_word call s) a.now) }
 {
     let mut list = Words::new(alloc);
@@ -94,6 +112,7 @@ fn each_pair(
     a: &[Word],
     b: &[Word],
 ) -> Result<Words, AllocError>
+    requires narrow { is_wide s ≡ false }
     ensures { IfOk result (λ list. list ≡ pairwise (two_words call s) a.now b.now) }
 {
     let mut list = Words::new(alloc);
@@ -153,13 +172,15 @@ fn given(arguments: &WordLists, at: usize) -> &[Word]
     }
 }
 
-/// What a call makes of its arguments.
-pub fn intrinsic(
+/// What a call makes of its arguments, where the scalar has 32 bits.
+#[tactic(auto, using(crate::proofs::OneNumber::narrow_width))]
+fn narrow_call(
     alloc: Global,
     call: Intrinsic,
     s: Scalar,
     arguments: &WordLists,
 ) -> Result<Words, AllocError>
+    requires narrow { is_wide s ≡ false }
     ensures { IfOk result (λ list. list ≡ called_with call s arguments.now) }
 {
     let a = given(arguments, 0);
@@ -186,5 +207,23 @@ pub fn intrinsic(
         Intrinsic::Any => Words::from_slice(alloc, &[truth_word(any_true(a))]),
         Intrinsic::All => Words::from_slice(alloc, &[truth_word(all_true(a))]),
         Intrinsic::Select => choose(alloc, a, b, c),
+    }
+}
+
+/// What a call makes of its arguments.
+#[tactic(auto, using(crate::proofs::OneNumber::called_narrow))]
+pub fn intrinsic(
+    alloc: Global,
+    call: Intrinsic,
+    t: TypeTree,
+    arguments: &WordLists,
+) -> Result<Words, AllocError>
+    ensures { IfOk result (λ list. list ≡ called_words call t arguments.now) }
+{
+    let s = scalar(t);
+    if is_of_wide(s) {
+        wide_call(alloc, call, s, arguments)
+    } else {
+        narrow_call(alloc, call, s, arguments)
     }
 }

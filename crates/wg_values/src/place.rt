@@ -8,8 +8,8 @@ ghost use Rattle.wg_semantics.specs.ExprMeaning.{components_of};
 ghost use Rattle.wg_semantics.specs.declared.state.Spot.TheVariants as spot;
 ghost use Rattle.wg_values.specs.Pieces.{range_of, setting_of};
 
-use crate::structs::{Piece, Structs};
-use crate::truths::clean;
+use crate::extents::Piece;
+use crate::structs::Structs;
 use crate::words::{cut, pick, write_over, zero_words};
 use std::alloc::{AllocError, Global};
 use std::mem;
@@ -27,6 +27,7 @@ pub struct Setting<'a> {
     pub handles: &'a [TypedHandle],
     pub outputs: &'a [Output],
     pub level: u32,
+    pub last: bool,
     pub lane: u32,
     pub earlier: &'a [TypedFunction],
 }
@@ -166,11 +167,12 @@ fn read_words(
     ensures { IfOk result (λ list. list ≡ as_read store setting.now.structs.now t words) }
 {
     match store {
-        Store::Buffer { .. } => clean(setting.alloc, setting.structs, t, words.as_slice()),
+        Store::Buffer { .. } | Store::Input { .. } => {
+            setting.structs.read(setting.alloc, t, words.as_slice())
+        }
         Store::Local { .. }
         | Store::Parameter { .. }
         | Store::Shared { .. }
-        | Store::Input { .. }
         | Store::Granted { .. } => Ok(words),
     }
 }

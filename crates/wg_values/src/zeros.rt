@@ -7,7 +7,7 @@ ghost use Rattle.wg_state.specs.WordLists.{zeros};
 use crate::structs::Structs;
 use crate::words::zero_words;
 use std::alloc::{AllocError, Global};
-use wg_typed::{TypeTree, TypedParameterType};
+use wg_typed::{TypeTree, TypedLocal, TypedParameterType};
 use wg_words::{WordLists, Words};
 
 /// The words of a parameter; an object has none.
@@ -27,17 +27,17 @@ pub fn zero_value(alloc: Global, structs: &Structs<'_>, t: TypeTree) -> Result<W
     zero_words(alloc, structs.words(t)?)
 }
 
-/// The values of locals of these types before they are declared.
+/// The values of locals before they are declared.
 pub fn fresh(
     alloc: Global,
     structs: &Structs<'_>,
-    types: &[TypeTree],
+    locals: &[TypedLocal],
 ) -> Result<WordLists, AllocError>
-    ensures { IfOk result (λ list. list ≡ fresh_locals structs.now types.now) }
+    ensures { IfOk result (λ list. list ≡ fresh_locals structs.now locals.now) }
 {
     let mut list = WordLists::new(alloc);
-    for t in types {
-        list.push(zero_value(alloc, structs, *t)?)?;
+    for local in locals {
+        list.push(zero_value(alloc, structs, local.of)?)?;
     }
     Ok(list)
 }

@@ -1,6 +1,0 @@
-use Rattle.std.proofs.Common.{◌≡◌, map, take}
-use Rattle.wg_typed.specs.Operators.{prefixed}
-use Rattle.wg_values.proofs.operators.prefix_all.Given as goal
-
-abbrev pub invariant-loop-x : goal.invariant-loop-x
-invariant-loop-x l = l.list ≡ map (prefixed l.operator l.fn.s) (take l.x-index l.a)

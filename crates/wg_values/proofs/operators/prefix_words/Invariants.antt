@@ -1,0 +1,6 @@
+use Rattle.std.proofs.Common.{◌≡◌, map, take}
+use Rattle.wg_typed.specs.Operators.{prefixed}
+use Rattle.wg_values.proofs.operators.prefix_words.Given as goal
+
+abbrev pub invariant-loop-x : goal.invariant-loop-x
+invariant-loop-x l = l.list ≡ map (prefixed l.operator l.s) (take l.x-index l.a)

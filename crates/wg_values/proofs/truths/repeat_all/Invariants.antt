@@ -1,6 +1,0 @@
-use Rattle.std.proofs.Common.{◌≡◌}
-use Rattle.wg_semantics.specs.Truths.{repeated}
-use Rattle.wg_values.proofs.truths.repeat_all.Given as goal
-
-abbrev pub invariant-loop-i : goal.invariant-loop-i
-invariant-loop-i l = l.list ≡ repeated l._i l.marks

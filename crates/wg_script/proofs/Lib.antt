@@ -5,3 +5,4 @@ pub mod GoodLemmas
 pub mod NameLemmas
 pub mod RuleLemmas
 pub mod RunLemmas
+pub mod WordLemmas

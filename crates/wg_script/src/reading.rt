@@ -12,8 +12,9 @@ ghost use Rattle.wg_script.specs.Words.{lines_of};
 
 use crate::draft::Draft;
 use crate::fields::Lines;
-use crate::lines::{is_title, line_of};
+use crate::lines::{line_of, title};
 use crate::names::ScriptNames;
+use crate::numbers::Version;
 use crate::{Script, ScriptFault};
 use std::alloc::Global;
 use wg_machine::{Shape, few_units};
@@ -25,13 +26,14 @@ fn add_line(
     shape: &Shape,
     names: &ScriptNames,
     draft: &mut Draft,
+    version: Version,
     text: &[u8],
     line: u64,
 ) -> Result<(), ScriptFault>
     requires { NamesShape shape.now names.now }
-    ensures { Adds result draft.new (line_added shape.now line draft.old (said_of text.now)) }
+    ensures { Adds result draft.new (line_added shape.now line draft.old (said_of version text.now)) }
 {
-    match line_of(alloc, text) {
+    match line_of(alloc, version, text) {
         Ok(said) => draft.add(alloc, shape, names, said, line),
         Err(Refusal::Form) => Err(ScriptFault::Form { line }),
         Err(Refusal::Memory) => Err(ScriptFault::Memory),
@@ -50,16 +52,16 @@ pub(crate) fn read_lines(alloc: Global, text: &[u8], shape: &Shape) -> Result<Sc
     let names = ScriptNames::new(alloc, shape)?;
     let mut draft = Draft::new(alloc, shape.buffers.len())?;
     let mut lines = Lines::new(text);
-    let Some(title) = lines.next() else {
+    let Some(first) = lines.next() else {
         return Err(ScriptFault::Form { line: 1 });
     };
-    if !is_title(title) {
+    let Some(version) = title(first) else {
         return Err(ScriptFault::Form { line: 1 });
-    }
+    };
     let mut number = 1u64;
     while let Some(line) = lines.next() {
         number += 1;
-        add_line(alloc, shape, &names, &mut draft, line, number)?;
+        add_line(alloc, shape, &names, &mut draft, version, line, number)?;
     }
     Ok(draft.finish(alloc)?)
 }

@@ -19,7 +19,7 @@ pub struct Script {
 /// Why a text is no script of a shape: the first line that breaks a rule, counted from 1, and its first broken rule.
 #[derive(Clone, Copy, Debug, PartialEq, Eq)]
 pub enum ScriptFault {
-    /// The line has no form of a line, or line 1 is not `script 1`.
+    /// The line has no form of a line, or line 1 names no version.
     Form { line: u64 },
     /// No node has this name and index.
     NoNode { line: u64 },

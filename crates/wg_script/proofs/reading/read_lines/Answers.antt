@@ -27,27 +27,27 @@ err_and P r f e h = subst (λ (s : Result Script ScriptFault). IsErrAnd s P) e h
 pub returns-in_default-clause-fault : goal.returns-in_default-clause-fault
 returns-in_default-clause-fault c = λ fault e ne. absurd (lines_some c.args.text.now (sym c.new-lines.ensures ∙ c.in_default.ensures.0))
 
-pub returns-then-not-is_title-clause-fault : goal.returns-then-not-is_title-clause-fault
-returns-then-not-is_title-clause-fault c = λ fault e ne.
+pub returns-in_default-title-clause-fault : goal.returns-in_default-title-clause-fault
+returns-in_default-title-clause-fault c = λ fault e ne.
     (subst (IsFirstFault c.args.shape.now c.args.text.now) (fault_is e)
-    (title_fault c.args.shape.now c.args.text.now c.in-Some.title.now c.next.new.self (sym c.new-lines.ensures ∙ c.in-Some.ensures) (sym c.is_title.ensures ∙ c.if-not-is_title.true)))
+    (title_fault c.args.shape.now c.args.text.now c.in-Some.first.now c.next.new.self (sym c.new-lines.ensures ∙ c.in-Some.ensures) (sym c.in_default-title.ensures)))
 
 pub loop-line-init : goal.loop-line-init
 loop-line-init c =
-    let first = goes_first c.args.shape.now c.args.text.now c.in-Some.title.now c.next.new.self (sym c.new-lines.ensures ∙ c.in-Some.ensures) (sym c.is_title.ensures ∙ c.if-not-is_title.false) in
+    let first = goes_first c.args.shape.now c.args.text.now c.in-Some.first.now c.in-Some-title.version c.next.new.self (sym c.new-lines.ensures ∙ c.in-Some.ensures) (sym c.in-Some-title.ensures) in
     let draft = c.in_ok-draft.ensures ∙ ap (λ (n : ℕ). record { entries = []; given = replicate n None; asked = 0 }) c.len.ensures in
-    subst (λ (s : Sofar). Goes c.args.shape.now c.args.text.now s c.next.new.self 1) (sym draft) first
+    subst (λ (s : Sofar). Goes c.args.shape.now c.args.text.now c.in-Some-title.version s c.next.new.self 1) (sym draft) first
 
 pub overflow_add-number : goal.overflow_add-number
 overflow_add-number c =
-    let few = goes_few c.args.shape.now c.args.text.now c.loop-line.draft c.loop-line.lines c.loop-line.number c.loop-line.invariant in
+    let few = goes_few c.args.shape.now c.args.text.now c.in-Some-title.version c.loop-line.draft c.loop-line.lines c.loop-line.number c.loop-line.invariant in
     let line = ap (λ (l : List (List ℕ)). length l) c.in-Some-next.ensures in
     omega arith
 
 pub loop-line-preserved : goal.loop-line-preserved
 loop-line-preserved c =
-    goes_on c.args.shape.now c.args.text.now c.loop-line.draft c.add_line.new.draft c.in-Some-next.line.now c.next-in-loop-line.new.self c.loop-line.number
-    (subst (λ (l : List (List ℕ)). Goes c.args.shape.now c.args.text.now c.loop-line.draft l c.loop-line.number) c.in-Some-next.ensures c.loop-line.invariant) c.in_ok-add_line.ensures
+    goes_on c.args.shape.now c.args.text.now c.in-Some-title.version c.loop-line.draft c.add_line.new.draft c.in-Some-next.line.now c.next-in-loop-line.new.self c.loop-line.number
+    (subst (λ (l : List (List ℕ)). Goes c.args.shape.now c.args.text.now c.in-Some-title.version c.loop-line.draft l c.loop-line.number) c.in-Some-next.ensures c.loop-line.invariant) c.in_ok-add_line.ensures
 
 pub returns-in_err-add_line-clause-fault : goal.returns-in_err-add_line-clause-fault
 returns-in_err-add_line-clause-fault c = λ fault e ne.
@@ -57,19 +57,19 @@ returns-in_err-add_line-clause-fault c = λ fault e ne.
     (λ memory. absurd (ne (sym same ∙ memory)))
     (λ wrong.
     (subst (IsFirstFault c.args.shape.now c.args.text.now) same
-    (goes_wrong c.args.shape.now c.args.text.now c.loop-line.draft c.in-Some-next.line.now c.next-in-loop-line.new.self c.loop-line.number own
-    (subst (λ (l : List (List ℕ)). Goes c.args.shape.now c.args.text.now c.loop-line.draft l c.loop-line.number) c.in-Some-next.ensures c.loop-line.invariant) wrong)))
+    (goes_wrong c.args.shape.now c.args.text.now c.in-Some-title.version c.loop-line.draft c.in-Some-next.line.now c.next-in-loop-line.new.self c.loop-line.number own
+    (subst (λ (l : List (List ℕ)). Goes c.args.shape.now c.args.text.now c.in-Some-title.version c.loop-line.draft l c.loop-line.number) c.in-Some-next.ensures c.loop-line.invariant) wrong)))
     c.in_err-add_line.ensures)
 
 pub returns-clause-good : goal.returns-clause-good
 returns-clause-good c =
-    (goes_end c.args.shape.now c.args.text.now c.loop-line.draft c.loop-line.number
-    (subst (λ (l : List (List ℕ)). Goes c.args.shape.now c.args.text.now c.loop-line.draft l c.loop-line.number) c.in_default-next.ensures.0 c.loop-line.invariant)).good
+    (goes_end c.args.shape.now c.args.text.now c.in-Some-title.version c.loop-line.draft c.loop-line.number
+    (subst (λ (l : List (List ℕ)). Goes c.args.shape.now c.args.text.now c.in-Some-title.version c.loop-line.draft l c.loop-line.number) c.in_default-next.ensures.0 c.loop-line.invariant)).good
 
 pub returns-clause-script : goal.returns-clause-script
 returns-clause-script c =
-    let end = goes_end c.args.shape.now c.args.text.now c.loop-line.draft c.loop-line.number
-    (subst (λ (l : List (List ℕ)). Goes c.args.shape.now c.args.text.now c.loop-line.draft l c.loop-line.number) c.in_default-next.ensures.0 c.loop-line.invariant) in
+    let end = goes_end c.args.shape.now c.args.text.now c.in-Some-title.version c.loop-line.draft c.loop-line.number
+    (subst (λ (l : List (List ℕ)). Goes c.args.shape.now c.args.text.now c.in-Some-title.version c.loop-line.draft l c.loop-line.number) c.in_default-next.ensures.0 c.loop-line.invariant) in
     subst (IsScript c.args.shape.now (all_said (lines_of c.args.text.now))) (sym c.in_ok-finish.ensures) (is_script c.args.shape.now c.loop-line.draft (all_said (lines_of c.args.text.now)) end.stands)
 
 pub returns-clause-fit : goal.returns-clause-fit
@@ -78,10 +78,10 @@ returns-clause-fit c = subst (IsFit c.args.shape.now) (sym c.in_ok-finish.ensure
 pub returns-in_default-clause-only : goal.returns-in_default-clause-only
 returns-in_default-clause-only c = λ good fault e. absurd (lines_some c.args.text.now (sym c.new-lines.ensures ∙ c.in_default.ensures.0))
 
-pub returns-then-not-is_title-clause-only : goal.returns-then-not-is_title-clause-only
-returns-then-not-is_title-clause-only c = λ good fault e.
+pub returns-in_default-title-clause-only : goal.returns-in_default-title-clause-only
+returns-in_default-title-clause-only c = λ good fault e.
     (absurd (not_good c.args.shape.now c.args.text.now (faults.Form 1)
-    (title_fault c.args.shape.now c.args.text.now c.in-Some.title.now c.next.new.self (sym c.new-lines.ensures ∙ c.in-Some.ensures) (sym c.is_title.ensures ∙ c.if-not-is_title.true)) good))
+    (title_fault c.args.shape.now c.args.text.now c.in-Some.first.now c.next.new.self (sym c.new-lines.ensures ∙ c.in-Some.ensures) (sym c.in_default-title.ensures)) good))
 
 pub returns-in_err-add_line-clause-only : goal.returns-in_err-add_line-clause-only
 returns-in_err-add_line-clause-only c = λ good fault e.
@@ -91,6 +91,6 @@ returns-in_err-add_line-clause-only c = λ good fault e.
     (λ memory. sym same ∙ memory)
     (λ wrong.
     (absurd (not_good c.args.shape.now c.args.text.now own
-    (goes_wrong c.args.shape.now c.args.text.now c.loop-line.draft c.in-Some-next.line.now c.next-in-loop-line.new.self c.loop-line.number own
-    (subst (λ (l : List (List ℕ)). Goes c.args.shape.now c.args.text.now c.loop-line.draft l c.loop-line.number) c.in-Some-next.ensures c.loop-line.invariant) wrong) good)))
+    (goes_wrong c.args.shape.now c.args.text.now c.in-Some-title.version c.loop-line.draft c.in-Some-next.line.now c.next-in-loop-line.new.self c.loop-line.number own
+    (subst (λ (l : List (List ℕ)). Goes c.args.shape.now c.args.text.now c.in-Some-title.version c.loop-line.draft l c.loop-line.number) c.in-Some-next.ensures c.loop-line.invariant) wrong) good)))
     c.in_err-add_line.ensures)

@@ -1,2 +1,3 @@
+pub mod Kept
+pub mod Layout
 pub mod SlotsOf
-pub mod Within

@@ -1,0 +1,4 @@
+pub mod Places
+pub mod Seeing
+pub mod Truth
+pub mod Words

@@ -1,0 +1,3 @@
+pub mod Guesses
+pub mod Knowing
+pub mod Logs

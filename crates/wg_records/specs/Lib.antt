@@ -1,0 +1,4 @@
+pub mod Bags
+pub mod Named
+pub mod Slots
+pub mod Taking

@@ -1,14 +1,18 @@
 //! The machine of a work graph: its shape, records and launches, what bodies mean, and what a run is.
 #![tactic(auto)]
 
+mod atomic;
 mod bodies;
+mod grid;
 mod journal;
 mod launch;
 mod laws;
 mod memory;
 mod shape;
+mod unit;
 
 pub use bodies::{Bodies, Halt};
+pub use grid::{count_groups, is_same_group, linear_place};
 pub use journal::{BufferLine, BufferLines, Done, Journal, Stop, Tail};
 pub use launch::{
     Bag, Entries, Entry, EntryList, Groups, Launch, Limits, Live, Made, Record, Records, Sent,

@@ -61,15 +61,6 @@ fn sent_to(
     Ok(sent)
 }
 
-fn is_shared(shape: &Shape, unit: u32) -> bool
-    ensures { result ≡ shared_at shape.now unit }
-{
-    match shape.units.get(unit as usize) {
-        Some(unit) => unit.shared,
-        None => false,
-    }
-}
-
 fn words_of_first(alloc: Global, records: &[Record]) -> Result<Words, AllocError>
     ensures { IfOk result (λ words. words ≡ first_words records.now) }
 {
@@ -87,7 +78,7 @@ pub fn words_kept(
 ) -> Result<Option<Words>, AllocError>
     ensures { IfOk result (λ words. words ≡ same_words shape.now launch.now) }
 {
-    if !is_shared(shape, launch.unit) {
+    if !shape.is_shared(launch.unit) {
         return Ok(None);
     }
     let words = words_of_first(alloc, launch.records.as_slice())?;

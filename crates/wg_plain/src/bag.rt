@@ -3,44 +3,14 @@ ghost use Rattle.wg_machine.specs.Fitting.{BagFits};
 ghost use Rattle.wg_machine.specs.GoodShape.{IsGoodShape};
 ghost use Rattle.wg_machine.specs.Grids.{has_group};
 ghost use Rattle.wg_machine.specs.Step.{has_number, first_grid, is_last, numbers_of, record_of, taken};
-ghost use Rattle.wg_machine.specs.Units.{kind_at, most_inputs, shared_at};
 ghost use Rattle.wg_plain.specs.Named.{all_taken, is_ready, FoundIs};
 
-use crate::grid::{is_same, place};
 use std::alloc::{AllocError, Global};
 use wg_machine::{
-    Entry, Kind, Launch, Live, Record, Records, Shape, allowed_is_launch_in, launch_in_is_allowed,
-    live_groups_lie_in_grids,
+    Entry, Launch, Live, Record, Records, Shape, allowed_is_launch_in, is_same_group,
+    launch_in_is_allowed, linear_place, live_groups_lie_in_grids,
 };
 use wg_words::TryCopy;
-
-/// The kind of a unit, thread launch where the shape has no such unit.
-pub fn kind_of(shape: &Shape, unit: u32) -> Kind
-    ensures { result ≡ kind_at shape.now unit }
-{
-    match shape.units.get(unit as usize) {
-        Some(node) => node.kind,
-        None => Kind::Thread,
-    }
-}
-
-fn is_shared(shape: &Shape, unit: u32) -> bool
-    ensures { result ≡ shared_at shape.now unit }
-{
-    match shape.units.get(unit as usize) {
-        Some(node) => node.shared,
-        None => false,
-    }
-}
-
-fn most_of(kind: Kind) -> u32
-    ensures { result ≡ most_inputs kind }
-{
-    match kind {
-        Kind::Coalescing { most } => most,
-        _ => 1,
-    }
-}
 
 /// Whether a number is among others.
 pub fn is_listed(numbers: &[u64], number: u64) -> bool
@@ -52,7 +22,7 @@ pub fn is_listed(numbers: &[u64], number: u64) -> bool
 fn stands_in(groups: &[[u32; 3]], at: &[u32; 3]) -> bool
     ensures { result ≡ has_group groups.now at.now }
 {
-    groups.iter().any(|group| is_same(group, at))
+    groups.iter().any(|group| is_same_group(group, at))
 }
 
 fn all_ready(bag: &[Live], numbers: &[u64], unit: u32, at: &[u32; 3]) -> bool
@@ -73,7 +43,7 @@ fn all_have_one_left(bag: &[Live], numbers: &[u64]) -> bool
 fn is_last_launch(shape: &Shape, unit: u32, bag: &[Live], numbers: &[u64]) -> bool
     ensures { result ≡ is_last shape.now unit (taken numbers.now bag.now) }
 {
-    is_shared(shape, unit) && all_have_one_left(bag, numbers)
+    shape.is_shared(unit) && all_have_one_left(bag, numbers)
 }
 
 fn record_in(alloc: Global, live: &Live) -> Result<Record, AllocError>
@@ -140,7 +110,7 @@ pub fn find(
     if numbers.is_empty() {
         return Ok(None);
     }
-    if numbers.len() > most_of(kind_of(shape, entry.unit)) as usize {
+    if numbers.len() > shape.kind(entry.unit).most_inputs() as usize {
         return Ok(None);
     }
     if !all_ready(bag, numbers, entry.unit, &entry.at) {
@@ -151,7 +121,7 @@ pub fn find(
         return Ok(None);
     }
     let grid = grid_of_first(bag, numbers);
-    let group = place(&grid, &entry.at);
+    let group = linear_place(&grid, &entry.at);
     let last = is_last_launch(shape, entry.unit, bag, numbers);
     Ok(Some(Launch {
         unit: entry.unit,

@@ -7,17 +7,17 @@ ghost use Rattle.wg_machine.specs.Step.{after_group, left_after};
 ghost use Rattle.wg_machine.specs.Units.{stride_at};
 ghost use Rattle.wg_plain.specs.Sizes.{bytes_of_bag};
 
-use crate::bag::{is_listed, kind_of};
-use crate::grid::{grid_for, groups_for, is_same};
+use crate::bag::is_listed;
+use crate::grid::groups_for;
 use std::alloc::{AllocError, Global};
-use wg_machine::{Bag, Groups, Live, Sent, Shape, Unit};
+use wg_machine::{Bag, Groups, Live, Sent, Shape, is_same_group};
 use wg_words::{TryCopy, Words};
 
 fn place_in(groups: &[[u32; 3]], at: &[u32; 3]) -> Option<usize>
     ensures first { result ≡ position (λ g. same_group g at.now) groups.now }
     ensures within { IfSome result (λ i. i < length groups.now) }
 {
-    groups.iter().position(|group| is_same(group, at))
+    groups.iter().position(|group| is_same_group(group, at))
 }
 
 fn without(groups: Groups, at: &[u32; 3]) -> Groups
@@ -107,7 +107,7 @@ fn push_new(
 ) -> Result<(), AllocError>
     ensures { OnOk result (bag.new ≡ bag.old ++ kept (live_of shape.now number sent.now)) }
 {
-    let grid = grid_for(kind_of(shape, sent.unit), sent.words.as_slice());
+    let grid = shape.kind(sent.unit).grid(sent.words.as_slice());
     let live = Live {
         number,
         unit: sent.unit,
@@ -137,21 +137,6 @@ pub fn arrive(
     Ok(())
 }
 
-fn stride_in(unit: &Unit) -> u32
-    ensures { result ≡ unit.now.stride }
-{
-    unit.stride
-}
-
-fn stride_of(shape: &Shape, unit: u32) -> u32
-    ensures { result ≡ stride_at shape.now unit }
-{
-    match shape.units.get(unit as usize) {
-        Some(node) => stride_in(node),
-        None => 0,
-    }
-}
-
 /// The bytes of the live records that were born of a launch: `handed` is the number of entry records.
 pub fn bytes_of(shape: &Shape, bag: &[Live], handed: u64) -> u64
     requires strides { (u : ℕ) → stride_at shape.now u ≤ MOST_STRIDE }
@@ -161,7 +146,7 @@ pub fn bytes_of(shape: &Shape, bag: &[Live], handed: u64) -> u64
     let mut bytes = 0;
     for live in bag {
         if live.number >= handed {
-            bytes += u64::from(stride_of(shape, live.unit));
+            bytes += u64::from(shape.stride(live.unit));
         }
     }
     bytes

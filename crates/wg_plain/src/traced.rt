@@ -1,7 +1,7 @@
 ghost use Rattle.std.specs.Prelude.{◌≡◌, ◌++◌, ◌∷◌, [], slice_set, IsTrue, IfOk, OnOk, refl};
 ghost use Rattle.std.specs.List.{list_all};
 ghost use Rattle.wg_machine.specs.Agreement.{has_seen};
-ghost use Rattle.wg_machine.specs.Buffers.{word_at, with_word, written, all_written, exchanged, signed_rank};
+ghost use Rattle.wg_machine.specs.Buffers.{word_at, with_word, written, all_written};
 ghost use Rattle.wg_plain.specs.Sizes.{AreShort};
 
 use std::alloc::{AllocError, Global};
@@ -70,30 +70,6 @@ fn apply(alloc: Global, buffers: &mut Vec<Words>, write: Write)
             let old = word_in(buffers.as_slice(), buffer, word);
             put(alloc, buffers, buffer, word, old.wrapping_add(value));
         }
-    }
-}
-
-fn rank(word: Word) -> Word
-    ensures { result ≡ signed_rank word }
-{
-    word.wrapping_add(1 << 31)
-}
-
-/// What an interlocked form leaves in place of an old word.
-fn changed(op: Atomic, old: Word, compare: Word, value: Word) -> Word
-    ensures { result ≡ exchanged op old compare value }
-{
-    match op {
-        Atomic::Min => old.min(value),
-        Atomic::MinSigned => { if rank(value) < rank(old) { value } else { old } }
-        Atomic::Max => old.max(value),
-        Atomic::MaxSigned => { if rank(old) < rank(value) { value } else { old } }
-        Atomic::And => old & value,
-        Atomic::Or => old | value,
-        Atomic::Xor => old ^ value,
-        Atomic::Add => old.wrapping_add(value),
-        Atomic::Exchange => value,
-        Atomic::CompareExchange => { if old == compare { value } else { old } }
     }
 }
 
@@ -215,7 +191,7 @@ impl<'a> Memory for Traced<'a> {
         self.write(Write::Set {
             buffer,
             word,
-            value: changed(op, found, compare, value),
+            value: op.exchanged(found, compare, value),
         })?;
         Ok(found)
     }

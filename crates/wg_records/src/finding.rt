@@ -8,11 +8,10 @@ ghost use Rattle.wg_records.specs.Bags.{slot_at, Keeps};
 ghost use Rattle.wg_records.specs.Named.{grid_in, has_one_left, is_ready_at, record_at, FoundIs, NumbersRise};
 
 use crate::live::LiveRecords;
-use crate::shape::{is_shared, kind_of, most_of, place};
 use std::alloc::{AllocError, Global};
 use wg_machine::{
     Entry, Launch, Record, Records, Shape, allowed_is_launch_in, launch_in_is_allowed,
-    live_groups_lie_in_grids,
+    linear_place, live_groups_lie_in_grids,
 };
 use wg_words::{TryCopy, Words};
 
@@ -83,7 +82,7 @@ fn are_at_last_group(records: &LiveRecords, numbers: &[u64]) -> bool
 fn is_last_launch(records: &LiveRecords, shape: &Shape, unit: u32, numbers: &[u64]) -> bool
     ensures { result ≡ (shared_at shape.now unit && list_all (λ n. has_one_left (slot_at records.now n)) numbers.now) }
 {
-    is_shared(shape, unit) && are_at_last_group(records, numbers)
+    shape.is_shared(unit) && are_at_last_group(records, numbers)
 }
 
 fn has_three(at: &[u32; 3])
@@ -110,7 +109,7 @@ impl LiveRecords {
         let Some(first) = numbers.first() else {
             return Ok(None);
         };
-        if numbers.len() > most_of(kind_of(shape, entry.unit)) as usize {
+        if numbers.len() > shape.kind(entry.unit).most_inputs() as usize {
             return Ok(None);
         }
         if !are_ready(self, numbers, entry.unit, &entry.at) {
@@ -118,7 +117,7 @@ impl LiveRecords {
         }
         let records = records_in(alloc, self, numbers)?;
         let grid = grid_at(self, *first);
-        let group = place(&grid, &entry.at);
+        let group = linear_place(&grid, &entry.at);
         let last = is_last_launch(self, shape, entry.unit, numbers);
         Ok(Some(Launch {
             unit: entry.unit,

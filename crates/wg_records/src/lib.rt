@@ -3,7 +3,6 @@
 
 mod finding;
 mod live;
-mod shape;
 mod slot;
 
 pub use live::LiveRecords;

@@ -10,7 +10,6 @@ ghost use Rattle.wg_records.specs.Bags.{bytes_of, slot_at, Keeps};
 ghost use Rattle.wg_records.specs.Named.{NumbersRise};
 ghost use Rattle.wg_records.specs.Taking.{TakesAt};
 
-use crate::shape::stride_of;
 use crate::slot::Slot;
 use std::alloc::{AllocError, Global};
 use std::collections::HashMap;
@@ -55,7 +54,7 @@ impl LiveRecords {
         if number < self.handed {
             0
         } else {
-            u64::from(stride_of(shape, unit))
+            u64::from(shape.stride(unit))
         }
     }
 

@@ -2,10 +2,9 @@ ghost use Rattle.std.specs.Prelude.{◌≡◌, ◌≤◌, IfOk, is_some, unwrap_
 ghost use Rattle.std.specs.Map.{lookup};
 ghost use Rattle.wg_records.specs.Slots.{group_place, has_left, has_ran, is_inside, is_ready_slot, IsBorn, RunsGroup};
 
-use crate::shape::{grid_for, groups_of_grid, kind_of};
 use std::alloc::{AllocError, Global};
 use std::collections::HashMap;
-use wg_machine::{Sent, Shape};
+use wg_machine::{Sent, Shape, count_groups};
 use wg_words::{TryCopy, Words};
 
 /// A thread group by its coordinates in its record's grid.
@@ -57,12 +56,12 @@ impl Slot {
     pub fn new(alloc: Global, shape: &Shape, sent: &Sent) -> Result<Slot, AllocError>
         ensures { IfOk result (IsBorn shape.now sent.now) }
     {
-        let grid = grid_for(kind_of(shape, sent.unit), sent.words.as_slice());
+        let grid = shape.kind(sent.unit).grid(sent.words.as_slice());
         Ok(Slot {
             unit: sent.unit,
             words: sent.words.copy(alloc)?,
             grid,
-            left: groups_of_grid(&grid),
+            left: count_groups(&grid),
             ran: HashMap::new(alloc),
         })
     }

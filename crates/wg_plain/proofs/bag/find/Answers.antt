@@ -15,19 +15,6 @@ returns-then-not-all_ready c = λ l n.
     let no : c.all_ready.result ≡ false = c.if-not-all_ready.true in
     cc)
 
-pub place-group-requires : goal.place-group-requires
-place-group-requires c =
-    let shape = c.args.shape.now in let bag = c.args.bag.now in let e = c.args.entry.now in
-    let R = c.in_ok-records.records in
-    let same = c.as_slice-numbers.ensures in
-    let is : R ≡ map record_of (taken e.inputs bag) = c.in_ok-records.ensures ∙ ap (λ (ns : List ℕ). map record_of (taken ns bag)) same in
-    let grid : c.grid_of_first-grid.result ≡ first_grid (taken e.inputs bag) = c.grid_of_first-grid.ensures ∙ ap (λ (ns : List ℕ). first_grid (taken ns bag)) same in
-    let test : all_taken (is_ready e.unit e.at) e.inputs bag ≡ true = ap (λ (ns : List ℕ). all_taken (is_ready e.unit e.at) ns bag) (sym same) ∙ sym c.all_ready.ensures ∙ c.if-not-all_ready.false in
-    let numbers : numbers_of R ≡ e.inputs = ap numbers_of (sym c.as_slice.ensures) ∙ (c.are_numbers.ensures.0 c.if-not-are_numbers.false ∙ same) in
-    let some = not_none (length c.as_slice-numbers.result.now) (length e.inputs) c.if-is_empty.ensures (ap (λ (ns : List ℕ). length ns) same) in
-    subst (λ (g : List ℕ). place_of g e.at < 2 ^ 32) (sym grid)
-    (small_place c.live_groups_lie_in_grids.ensures shape bag e c.requires.good c.requires.fitting some test (ap numbers_of (sym is) ∙ numbers))
-
 pub returns : goal.returns
 returns c =
     let shape = c.args.shape.now in let bag = c.args.bag.now in let e = c.args.entry.now in
@@ -41,9 +28,12 @@ returns c =
     let numbers : numbers_of R ≡ e.inputs = ap numbers_of (sym c.as_slice.ensures) ∙ (c.are_numbers.ensures.0 c.if-not-are_numbers.false ∙ same) in
     let n = ap (λ (ns : List ℕ). length ns) same in
     let some = not_none (length c.as_slice-numbers.result.now) (length e.inputs) c.if-is_empty.ensures n in
-    let m : c.most_of.result ≡ most_inputs K = c.most_of.ensures ∙ ap most_inputs c.kind_of.ensures in
-    let t = c.if-numbers-most_of.false in
+    let m : c.most_inputs.result ≡ most_inputs K = c.most_inputs.ensures ∙ ap most_inputs c.kind.ensures in
+    let t = c.if-numbers-most_inputs.false in
     let few : length e.inputs ≤ most_inputs K = omega arith in
     let last : c.is_last_launch-last.result ≡ is_last shape e.unit (taken e.inputs bag) = c.is_last_launch-last.ensures ∙ ap (λ (ns : List ℕ). is_last shape e.unit (taken ns bag)) same in
-    let l : Launch = record { unit = e.unit; records = R; group = c.place-group.result; grid = G; last = c.is_last_launch-last.result } in
-    found c.launch_in_is_allowed.ensures shape bag e l c.requires.fitting some few test is numbers grid refl c.place-group.ensures last
+    let l : Launch = record { unit = e.unit; records = R; group = c.linear_place-group.result; grid = G; last = c.is_last_launch-last.result } in
+    let small : place_of G e.at < 2 ^ 32 =
+        subst (λ (g : List ℕ). place_of g e.at < 2 ^ 32) (sym grid)
+        (small_place c.live_groups_lie_in_grids.ensures shape bag e c.requires.good c.requires.fitting some test (ap numbers_of (sym is) ∙ numbers)) in
+    found c.launch_in_is_allowed.ensures shape bag e l c.requires.fitting some few test is numbers grid refl (c.linear_place-group.ensures small) last

@@ -24,7 +24,7 @@ returns-clause-exchanged c =
           seen.log
           (subst (λ (m : Buffers). Agrees (lengths_of m) mid.log.items start) (did.start ∙ seen.start) (subst (λ (log : List Seen). Agrees (lengths_of new.start.now) log start) did.log fits));
       leaves = λ start fits.
-          ap (all_written start) (did.writes ∙ ap (λ (ws : List Write). ws ++ Set b w c.changed.result ∷ []) seen.writes)
-          ∙ written_append start old.writes.items (Set b w c.changed.result)
-          ∙ ap (λ (v : ℕ). with_word (all_written start old.writes.items) b w v) c.changed.ensures;
+          ap (all_written start) (did.writes ∙ ap (λ (ws : List Write). ws ++ Set b w c.exchanged.result ∷ []) seen.writes)
+          ∙ written_append start old.writes.items (Set b w c.exchanged.result)
+          ∙ ap (λ (v : ℕ). with_word (all_written start old.writes.items) b w v) c.exchanged.ensures;
     }

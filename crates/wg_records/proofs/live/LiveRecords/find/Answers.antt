@@ -25,10 +25,10 @@ returns c = λ bag keeps fits.
     let G = c.args.shape.now in
     let same = c.as_slice-numbers.ensures in
     let n = ap (λ (ns : List ℕ). length ns) same in
-    let m : c.most_of.result ≡ most_inputs (kind_at G e.unit) = c.most_of.ensures ∙ ap most_inputs c.kind_of.ensures in
-    let t = c.if-numbers-most_of.false in
+    let m : c.most_inputs.result ≡ most_inputs (kind_at G e.unit) = c.most_inputs.ensures ∙ ap most_inputs c.kind.ensures in
+    let t = c.if-numbers-most_inputs.false in
     let few : length e.inputs ≤ most_inputs (kind_at G e.unit) = omega arith in
-    let l : Launch = record { unit = e.unit; records = c.in_ok-records.records; group = c.place-group.result; grid = c.grid_at-grid.result; last = c.is_last_launch-last.result } in
+    let l : Launch = record { unit = e.unit; records = c.in_ok-records.records; group = c.linear_place-group.result; grid = c.grid_at-grid.result; last = c.is_last_launch-last.result } in
     found c.launch_in_is_allowed.ensures c.live_groups_lie_in_grids.ensures G k bag e l c.requires.good c.has_three.ensures c.requires.rise keeps fits (record {
       first = c.in-Some.first.now;
       first_is = c.in-Some.ensures.value ∙ ap (λ (ns : List ℕ). slice_get ns 0) same;
@@ -36,7 +36,7 @@ returns c = λ bag keeps fits.
       ready = ap (list_all (λ n. is_ready_at e.unit e.at (slot_at k n))) (sym same) ∙ sym c.are_ready.ensures ∙ c.if-not-are_ready.false;
       records = c.in_ok-records.ensures ∙ ap (map (record_at k)) same;
       grid = c.grid_at-grid.ensures;
-      group = c.place-group.ensures;
+      group = c.linear_place-group.ensures;
       unit = refl;
       last = c.is_last_launch-last.ensures ∙ ap (λ (ns : List ℕ). shared_at G e.unit && list_all (λ n. has_one_left (slot_at k n)) ns) same;
     }))

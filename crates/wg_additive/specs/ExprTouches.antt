@@ -1,8 +1,8 @@
 -- What an expression does to the shared buffers: taken for its value, and as a place that is only found. Own.
 use Rattle.std.specs.Prelude.{ℕ, Bool, true, false, List, [], ◌∷◌, ◌++◌, Option, Some, None, slice_get}
-use Rattle.wg_tree.specs.declared.item.Directed.{Directed}
 use Rattle.wg_tree.specs.declared.item.Direction.{Direction}
 use Rattle.wg_tree.specs.declared.item.Direction.TheVariants as direction
+use Rattle.wg_typed.specs.Directions.{direction_of}
 use Rattle.wg_typed.specs.declared.typed.TypedFunction.{TypedFunction}
 use Rattle.wg_typed.specs.declared.typed.TypedParameter.{TypedParameter}
 use Rattle.wg_typed.specs.declared.typed_expr.TypedExpr.{TypedExpr}
@@ -39,10 +39,6 @@ option_value (Some e) = e.value
 
 -- ---- arguments of functions
 
-abbrev pub direction_in : Option Directed → Direction
-direction_in None = direction.In
-direction_in (Some d) = d.direction
-
 -- an `out` argument is stored, and an `inout` one is read before
 abbrev pub passed_by : Direction → Touched → List Touch
 passed_by direction.In e = e.value
@@ -53,7 +49,7 @@ passed_by direction.InOut e = e.place ++ where_in_buffer e.in_buffer (a_read ∷
 abbrev pub all_passed : List TypedParameter → List Touched → List Touch
 all_passed parameters [] = []
 all_passed [] (e ∷ rest) = e.value ++ all_passed [] rest
-all_passed (p ∷ parameters) (e ∷ rest) = passed_by (direction_in p.direction) e ++ all_passed parameters rest
+all_passed (p ∷ parameters) (e ∷ rest) = passed_by (direction_of p.direction) e ++ all_passed parameters rest
 
 abbrev pub parameters_in : Option TypedFunction → List TypedParameter
 parameters_in None = []
@@ -67,8 +63,7 @@ call_touches functions function arguments = all_passed (parameters_in (slice_get
 
 abbrev pub kind_touched : List TypedFunction → TypedKind-F (List Touch) Touched Touched Touched → Touched
 kind_touched functions (TypedKind-F.Literal words) = outside []
-kind_touched functions (TypedKind-F.Local local) = outside []
-kind_touched functions (TypedKind-F.Parameter parameter) = outside []
+kind_touched functions (TypedKind-F.Variable variable) = outside []
 kind_touched functions (TypedKind-F.Shared variable) = outside []
 kind_touched functions (TypedKind-F.Element buffer index) = element_at index.value
 kind_touched functions (TypedKind-F.Load buffer address) = outside (address.value ++ a_read ∷ [])

@@ -1,3 +1,4 @@
 pub mod Calling
+pub mod KindLayers
 pub mod Sequences
 pub mod Within

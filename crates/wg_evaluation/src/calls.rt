@@ -1,4 +1,5 @@
-ghost use Rattle.std.specs.Prelude.{◌≡◌, ◌≤◌, ◌<◌, ◌↔◌, ℕ, IfOk, IsTrue, map};
+ghost use Rattle.std.specs.Prelude.{◌≡◌, ◌≤◌, ◌<◌, ◌↔◌, ℕ, IfOk, IsTrue, OnSome, length, map, slice_get, take};
+ghost use Rattle.std.specs.Option.{option_copied};
 ghost use Rattle.wg_semantics.specs.declared.state.Passed.{Passed as Given};
 ghost use Rattle.wg_state.specs.Turns.{Done};
 ghost use Rattle.wg_semantics.specs.Calls.{callee_at, on_world, all_back};
@@ -7,6 +8,7 @@ ghost use Rattle.wg_evaluation.specs.Says.{Runs, callees_in, back_in};
 use std::alloc::{AllocError, Global};
 use wg_machine::Halt;
 use wg_semantics::{Passed, State};
+use wg_typed::TypedFunction;
 use wg_values::{Setting, write};
 use wg_words::{Items, WordLists, Words};
 
@@ -27,7 +29,8 @@ pub trait Calls {
     fn reaches(&self, function: u32) -> bool
         ensures { IsTrue result ↔ (function < reach self.now) };
 
-    /// Runs a function by its number on its parameters' values: its result, and its parameters as it leaves them.
+    /// Runs a function by its number on its parameters' values: its result, and its variables as it leaves them, of which
+    /// the first are its parameters.
     fn call(
         &self,
         setting: &Setting<'_>,
@@ -37,6 +40,22 @@ pub trait Calls {
     ) -> Result<(Words, WordLists), Halt>
         ensures says { Runs (on_world ((callee_at (callees_in (reach self.now) setting.now) function).does values)) run.old result run.new }
         ensures turns { run.new.turns ≤ run.old.turns };
+}
+
+/// The function of a number, where calls reach it.
+pub fn function_at<'a>(
+    setting: &Setting<'a>,
+    number: u32,
+    is_reached: bool,
+) -> Option<&'a TypedFunction>
+    ensures value { (reach : ℕ) → (IsTrue is_reached ↔ (number < reach)) → option_copied result ≡ slice_get (take reach setting.now.earlier.now) number }
+    ensures within { OnSome result (number < length setting.now.earlier.now) }
+{
+    if is_reached {
+        setting.earlier.get(number as usize)
+    } else {
+        None
+    }
 }
 
 /// The values of what is passed.

@@ -1,25 +1,23 @@
-ghost use Rattle.std.specs.Prelude.{◌≡◌, ◌≤◌, [], ◌∷◌, IfOk, length, map, option_map, take, slice_get};
+ghost use Rattle.std.specs.Prelude.{◌≡◌, ◌≤◌, [], ◌∷◌, IfOk, length, map, option_map};
 ghost use Rattle.wg_semantics.specs.declared.state.Spot.TheVariants as spot;
-ghost use Rattle.std.specs.Option.{option_copied};
 ghost use Rattle.wg_state.specs.Turns.{Done, each};
 ghost use Rattle.wg_typed.specs.declared.typed_expr.Access.TheOpen.{TypedKind-F};
+ghost use Rattle.wg_typed.specs.Directions.{direction_of};
 ghost use Rattle.wg_typed.specs.Layout.{words_of};
 ghost use Rattle.wg_semantics.specs.Places.{array_size};
 ghost use Rattle.wg_state.specs.WordLists.{zeros};
-ghost use Rattle.wg_semantics.specs.Calls.{value_of, all_passed, passed, called, callee_at, direction_in};
+ghost use Rattle.wg_semantics.specs.Calls.{value_of, all_passed, passed, called, callee_at};
 ghost use Rattle.wg_semantics.specs.ExprMeaning.{seen, kind_step, kind_does, follows, links, word_of, index_of, followed, chained, operated, components_of};
 ghost use Rattle.wg_values.specs.Pieces.{setting_of};
 ghost use Rattle.wg_evaluation.specs.Says.{Runs, within, callees_in, spot_result};
 
-use crate::calls::{Calls, Run, copy_all_back, passed_words};
+use crate::calls::{Calls, Run, copy_all_back, function_at, passed_words};
 use sqlite_items::{Boxed, Items};
 use std::alloc::AllocError;
 use wg_machine::Halt;
 use wg_semantics::{Passed, Spot, State, Store, callees_are_functions};
 use wg_tree::{BinaryOperator, Directed, Direction, PrefixOperator};
-use wg_typed::{
-    Access, Intrinsic, TypeTree, TypedExpr, TypedFunction, TypedKind, TypedLink, TypedParameter,
-};
+use wg_typed::{Access, Intrinsic, TypeTree, TypedExpr, TypedKind, TypedLink, TypedParameter};
 use wg_values::{
     Setting, buffer_place, combine_all, components, convert, element, fetch, field_piece,
     handle_place, input_place, intrinsic, parameter_size, part, prefix_all, put_all, raw_words,
@@ -328,7 +326,7 @@ fn pass<C: Calls>(
 }
 
 fn direction(written: Option<Directed>) -> Direction
-    ensures { result ≡ direction_in written }
+    ensures { result ≡ direction_of written }
 {
     match written {
         Some(directed) => directed.direction,
@@ -363,22 +361,6 @@ fn pass_all<C: Calls>(
     Ok(list)
 }
 
-/// The function of a number, if calls reach it.
-#[tactic(auto, using(crate::proofs::Within::got_within, crate::proofs::Within::got_beyond))]
-fn callee<'a, C: Calls>(
-    setting: &Setting<'a>,
-    calls: &C,
-    function: u32,
-) -> Option<&'a TypedFunction>
-    ensures { option_copied result ≡ slice_get (take (C.reach calls.now) setting.now.earlier.now) function }
-{
-    if calls.reaches(function) {
-        setting.earlier.get(function as usize)
-    } else {
-        None
-    }
-}
-
 /// A call: its arguments, the function, and the copies back.
 #[cycle(expr)]
 pub fn call<C: Calls>(
@@ -392,7 +374,7 @@ pub fn call<C: Calls>(
     ensures turns { run.new.turns ≤ run.old.turns }
 {
     callees_are_functions();
-    let callee = match callee(setting, calls, function) {
+    let callee = match function_at(setting, function, calls.reaches(function)) {
         Some(callee) => callee,
         None => return Ok(Words::new(setting.alloc)),
     };
@@ -416,8 +398,7 @@ fn buffer_element<C: Calls>(
     ensures says { Runs (within (C.reach calls.now) setting.now kind_step (TypedKind-F.Element buffer (within (C.reach calls.now) setting.now seen index.now)) t) run.old result run.new }
     ensures turns { run.new.turns ≤ run.old.turns }
 {
-    let found = value(setting, calls, index.get(), run)?;
-    let at = word_at(found.as_slice(), 0);
+    let at = word(setting, calls, index.get(), run)?;
     let words = setting.structs.words(t)?;
     Ok(buffer_place(buffer, words, at, &run.state)?)
 }
@@ -435,10 +416,42 @@ fn load<C: Calls>(
     ensures says { Runs (within (C.reach calls.now) setting.now kind_step (TypedKind-F.Load buffer (within (C.reach calls.now) setting.now seen address.now)) t) run.old result run.new }
     ensures turns { run.new.turns ≤ run.old.turns }
 {
-    let found = value(setting, calls, address.get(), run)?;
-    let at = word_at(found.as_slice(), 0);
+    let at = word(setting, calls, address.get(), run)?;
     let words = raw_words(setting, t, buffer, at, &run.state)?;
     Ok(Spot::Value { words })
+}
+
+/// A record of the input.
+#[cycle(expr)]
+fn input<C: Calls>(
+    setting: &Setting<'_>,
+    calls: &C,
+    at: &Option<Boxed<TypedExpr>>,
+    t: TypeTree,
+    run: &mut Run,
+) -> Result<Spot, Halt>
+    ensures says { Runs (within (C.reach calls.now) setting.now kind_step (TypedKind-F.Input (option_map (within (C.reach calls.now) setting.now seen) at.now)) t) run.old result run.new }
+    ensures turns { run.new.turns ≤ run.old.turns }
+{
+    let at = index(setting, calls, at, run)?;
+    Ok(input_place(at, &run.state))
+}
+
+/// A record of a handle.
+#[cycle(expr)]
+fn handle_record<C: Calls>(
+    setting: &Setting<'_>,
+    calls: &C,
+    handle: u32,
+    at: &Option<Boxed<TypedExpr>>,
+    t: TypeTree,
+    run: &mut Run,
+) -> Result<Spot, Halt>
+    ensures says { Runs (within (C.reach calls.now) setting.now kind_step (TypedKind-F.Handle handle (option_map (within (C.reach calls.now) setting.now seen) at.now)) t) run.old result run.new }
+    ensures turns { run.new.turns ≤ run.old.turns }
+{
+    let at = index(setting, calls, at, run)?;
+    Ok(handle_place(setting, handle, at, &run.state))
 }
 
 /// Whether an element of an output has a unit to which it sends.
@@ -543,9 +556,8 @@ fn kind<C: Calls>(
 {
     match kind {
         TypedKind::Literal { words } => Ok(literal(setting, words)?),
-        TypedKind::Local { local } => Ok(whole(Store::Local { local: *local })),
-        TypedKind::Parameter { parameter } => Ok(whole(Store::Parameter {
-            parameter: *parameter,
+        TypedKind::Variable { variable } => Ok(whole(Store::Variable {
+            variable: *variable,
         })),
         TypedKind::Shared { variable } => Ok(whole(Store::Shared {
             variable: *variable,
@@ -554,16 +566,12 @@ fn kind<C: Calls>(
             setting, calls, *buffer, index, t, run,
         ),
         TypedKind::Load { buffer, address } => load(setting, calls, *buffer, address, t, run),
-        TypedKind::Input { index: at } => {
-            let at = index(setting, calls, at, run)?;
-            Ok(input_place(at, &run.state))
-        }
+        TypedKind::Input { index: at } => input(setting, calls, at, t, run),
         TypedKind::Count => Ok(record_count(setting, &run.state)?),
         TypedKind::Finished => Ok(one_word(setting, truth_word(setting.last))?),
-        TypedKind::Handle { handle, index: at } => {
-            let at = index(setting, calls, at, run)?;
-            Ok(handle_place(setting, *handle, at, &run.state))
-        }
+        TypedKind::Handle { handle, index: at } => handle_record(
+            setting, calls, *handle, at, t, run,
+        ),
         TypedKind::IsValid { output, element } => is_valid(
             setting, calls, *output, element, t, run,
         ),
@@ -582,8 +590,8 @@ fn kind<C: Calls>(
             as_spot(chain(setting, calls, rest, first.get().of, words, run))
         }
         TypedKind::Choice { test, then, other } => {
-            let words = value(setting, calls, test.get(), run)?;
-            if word_at(words.as_slice(), 0) != 0 {
+            let c = word(setting, calls, test.get(), run)?;
+            if c != 0 {
                 as_spot(value(setting, calls, then.get(), run))
             } else {
                 as_spot(value(setting, calls, other.get(), run))

@@ -4,5 +4,5 @@
 mod calls;
 mod expr;
 
-pub use calls::{Calls, Run};
+pub use calls::{Calls, Run, function_at};
 pub use expr::{call, spot, value, word};

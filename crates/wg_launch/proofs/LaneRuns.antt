@@ -3,7 +3,6 @@ use Rattle.std.proofs.Common.{◌≡◌, ℕ, zero, suc, ◌+◌, List, [], ◌�
 use Rattle.std.proofs.Math.Seq.{take-suc}
 use Rattle.std.proofs.lemmas.List.{get_or-drop, length-drop, append_assoc, drop_more}
 use Rattle.wg_state.specs.Turns.{Ending, Spent, Done, Action, and_then, pure}
-use Rattle.wg_semantics.specs.declared.state.Frame.{Frame}
 use Rattle.wg_semantics.specs.declared.state.Lane.{Lane}
 use Rattle.wg_machine.specs.declared.shape.Unit.{Unit as Node}
 use Rattle.wg_state.specs.Launching.{outcome_after}
@@ -52,34 +51,34 @@ lanes_end bodies n items done w t e = ap (λ l. put_before done (lanes_run bodie
 
 -- ---- lane 0
 
-pub set_first : (lanes : List Lane) (lane : Lane) (f : Frame) → 0 < length lanes → lane ≡ get_or lanes 0 lane → slice_set lanes 0 (record { frame = f; returned = lane.returned }) ≡ with_first f lanes
+pub set_first : (lanes : List Lane) (lane : Lane) (f : List (List ℕ)) → 0 < length lanes → lane ≡ get_or lanes 0 lane → slice_set lanes 0 (record { variables = f; returned = lane.returned }) ≡ with_first f lanes
 set_first [] lane f some is = absurd (let h : ⊥ = omega (arith, some) in h)
-set_first (x ∷ rest) lane f some is = ap (λ (y : Lane). record { frame = f; returned = y.returned } ∷ rest) is
+set_first (x ∷ rest) lane f some is = ap (λ (y : Lane). record { variables = f; returned = y.returned } ∷ rest) is
 
-pub is_first : (lanes : List Lane) (lane : Lane) → 0 < length lanes → lane ≡ get_or lanes 0 lane → IsFirst lane.frame lanes
+pub is_first : (lanes : List Lane) (lane : Lane) → 0 < length lanes → lane ≡ get_or lanes 0 lane → IsFirst lane.variables lanes
 is_first [] lane some is = absurd (let h : ⊥ = omega (arith, some) in h)
-is_first (x ∷ rest) lane some is = ap (λ (y : Lane). y.frame) is
+is_first (x ∷ rest) lane some is = ap (λ (y : Lane). y.variables) is
 
-still_there : (lanes : List Lane) (f : Frame) → 0 < length lanes → 0 < length (with_first f lanes)
+still_there : (lanes : List Lane) (f : List (List ℕ)) → 0 < length lanes → 0 < length (with_first f lanes)
 still_there [] f some = some
 still_there (x ∷ rest) f some = omega arith
 
-module _ (m : Action State ℕ) (lanes : List Lane) (f : Frame) (w : World) (t : ℕ) (first : IsFirst f lanes) where
-  -- the lanes after a test on lane 0, which has a new frame
-  pub tests_first : (word : ℕ) (s : State) (u : ℕ) (g : Frame) (others last : List Lane) → m (record { frame = f; world = w }) t ≡ Done word s u → others ≡ with_first g lanes → last ≡ with_first s.frame others → first_test m lanes w t ≡ Done (word, last) s.world u
-  tests_first word s u g others last run lent back = after lanes first ∙ ap (λ l. Done (word, l) s.world u) (sym (back ∙ ap (with_first s.frame) lent))
+module _ (m : Action State ℕ) (lanes : List Lane) (f : List (List ℕ)) (w : World) (t : ℕ) (first : IsFirst f lanes) where
+  -- the lanes after a test on lane 0, which has new variables
+  pub tests_first : (word : ℕ) (s : State) (u : ℕ) (g : List (List ℕ)) (others last : List Lane) → m (record { variables = f; world = w }) t ≡ Done word s u → others ≡ with_first g lanes → last ≡ with_first s.variables others → first_test m lanes w t ≡ Done (word, last) s.world u
+  tests_first word s u g others last run lent back = after lanes first ∙ ap (λ l. Done (word, l) s.world u) (sym (back ∙ ap (with_first s.variables) lent))
     where
-      after : (l : List Lane) → IsFirst f l → first_test m l w t ≡ Done (word, with_first s.frame (with_first g l)) s.world u
+      after : (l : List Lane) → IsFirst f l → first_test m l w t ≡ Done (word, with_first s.variables (with_first g l)) s.world u
       after [] none = absurd none
-      after (x ∷ rest) is = ap (λ y. tested x rest (m (record { frame = y; world = w }) t)) (sym is) ∙ ap (tested x rest) run
+      after (x ∷ rest) is = ap (λ y. tested x rest (m (record { variables = y; world = w }) t)) (sym is) ∙ ap (tested x rest) run
 
-  pub tests_stop : (h : Halt) → Stops (m (record { frame = f; world = w }) t) h → Stops (first_test m lanes w t) h
+  pub tests_stop : (h : Halt) → Stops (m (record { variables = f; world = w }) t) h → Stops (first_test m lanes w t) h
   tests_stop halt.Memory stops = tt
   tests_stop halt.Turns stops = after lanes first
     where
       after : (l : List Lane) → IsFirst f l → first_test m l w t ≡ Spent
       after [] none = absurd none
-      after (x ∷ rest) is = ap (λ y. tested x rest (m (record { frame = y; world = w }) t)) (sym is) ∙ ap (tested x rest) stops
+      after (x ∷ rest) is = ap (λ y. tested x rest (m (record { variables = y; world = w }) t)) (sym is) ∙ ap (tested x rest) stops
 
 -- ---- phases
 
@@ -186,13 +185,13 @@ pub launch_stops : (unit : Node) (turns : ℕ) (o : Ending World (List Lane)) (h
 launch_stops unit turns o halt.Turns stops = ap (outcome_after unit turns) stops
 launch_stops unit turns o halt.Memory stops = tt
 
-pub lanes_more : (frame : ℕ → Frame) (lane count : ℕ) (list more : List Lane) (f : Frame) → lane < count → f ≡ frame lane → more ≡ list ++ record { frame = f; returned = false } ∷ [] → more ++ first_lanes frame (lane + 1) (count - (lane + 1)) ≡ list ++ first_lanes frame lane (count - lane)
-lanes_more frame lane count list more f lt is pushed =
+pub lanes_more : (values : ℕ → List (List ℕ)) (lane count : ℕ) (list more : List Lane) (f : List (List ℕ)) → lane < count → f ≡ values lane → more ≡ list ++ record { variables = f; returned = false } ∷ [] → more ++ first_lanes values (lane + 1) (count - (lane + 1)) ≡ list ++ first_lanes values lane (count - lane)
+lanes_more values lane count list more f lt is pushed =
     let left : count - lane ≡ suc (count - (lane + 1)) = omega (arith, lt) in
     let next : lane + 1 ≡ suc lane = omega arith in
-    let rest = first_lanes frame (lane + 1) (count - (lane + 1)) in
+    let rest = first_lanes values (lane + 1) (count - (lane + 1)) in
     ap (λ l. l ++ rest) pushed
-    ∙ append_assoc list (record { frame = f; returned = false } ∷ []) rest
-    ∙ ap (λ g. list ++ record { frame = g; returned = false } ∷ rest) is
-    ∙ ap (λ n. list ++ record { frame = frame lane; returned = false } ∷ first_lanes frame n (count - (lane + 1))) next
-    ∙ ap (λ n. list ++ first_lanes frame lane n) (sym left)
+    ∙ append_assoc list (record { variables = f; returned = false } ∷ []) rest
+    ∙ ap (λ g. list ++ record { variables = g; returned = false } ∷ rest) is
+    ∙ ap (λ n. list ++ record { variables = values lane; returned = false } ∷ first_lanes values n (count - (lane + 1))) next
+    ∙ ap (λ n. list ++ first_lanes values lane n) (sym left)

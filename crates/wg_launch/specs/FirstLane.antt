@@ -1,14 +1,13 @@
--- The frame of lane 0 while it is used elsewhere.
-use Rattle.std.specs.Prelude.{◌≡◌, List, [], ◌∷◌}
-use Rattle.wg_semantics.specs.declared.state.Frame.{Frame}
+-- The variables of lane 0 while they are used elsewhere.
+use Rattle.std.specs.Prelude.{◌≡◌, ℕ, List, [], ◌∷◌}
 use Rattle.wg_semantics.specs.declared.state.Lane.{Lane}
 
--- lane 0 is there and has this frame
-abbrev pub IsFirst : Frame → List Lane → Type 0
-IsFirst frame [] = ⊥
-IsFirst frame (lane ∷ rest) = frame ≡ lane.frame
+-- lane 0 is there and its variables have these words
+abbrev pub IsFirst : List (List ℕ) → List Lane → Type 0
+IsFirst variables [] = ⊥
+IsFirst variables (lane ∷ rest) = variables ≡ lane.variables
 
--- the lanes with another frame for lane 0
-abbrev pub with_first : Frame → List Lane → List Lane
-with_first frame [] = []
-with_first frame (lane ∷ rest) = record { frame = frame; returned = lane.returned } ∷ rest
+-- the lanes with other words of lane 0's variables
+abbrev pub with_first : List (List ℕ) → List Lane → List Lane
+with_first variables [] = []
+with_first variables (lane ∷ rest) = record { variables = variables; returned = lane.returned } ∷ rest

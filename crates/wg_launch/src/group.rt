@@ -4,13 +4,13 @@ ghost use Rattle.wg_machine.specs.declared.launch.Record.{Record as OfRecord};
 ghost use Rattle.wg_machine.specs.LaunchMeaning.{outcome_of};
 ghost use Rattle.wg_state.specs.Lanes.{coordinates_of, lanes_in};
 ghost use Rattle.wg_state.specs.Launching.{world_before, new_words, outcome_with, does_nothing};
-ghost use Rattle.wg_semantics.specs.LaunchMeaning.{first_frame, first_lanes, first_shared, function_made, body_made, made};
+ghost use Rattle.wg_semantics.specs.LaunchMeaning.{first_values, first_lanes, first_shared, function_made, body_made, made};
 ghost use Rattle.wg_launch.specs.Launches.{Launches};
 
-use crate::lanes::{Entry, no_frame};
+use crate::lanes::Entry;
 use crate::phases::run_block;
 use crate::sent::all_sent;
-use crate::start::{LaneSpot, coordinates, frame, shared};
+use crate::start::{LaneSpot, coordinates, shared, values_at_first};
 use std::alloc::{AllocError, Global};
 use wg_evaluation::Run;
 use wg_machine::{Halt, Launch, Made, Record, SentList, Shape, Unit};
@@ -33,7 +33,7 @@ fn lane_count(threads: [Word; 3]) -> Option<u32>
 
 /// The lanes of a group before they run.
 fn lanes_of(entry: &Entry<'_>, group: [Word; 3], count: u32) -> Result<Items<Lane>, AllocError>
-    ensures { IfOk result (λ list. list ≡ first_lanes (first_frame entry.now.text.now.structs entry.now.function.now group entry.now.threads) 0 count) }
+    ensures { IfOk result (λ list. list ≡ first_lanes (first_values entry.now.text.now.structs entry.now.function.now group entry.now.threads) 0 count) }
 {
     let threads = entry.threads;
     let mut list = Items::new(entry.alloc);
@@ -43,9 +43,9 @@ fn lanes_of(entry: &Entry<'_>, group: [Word; 3], count: u32) -> Result<Items<Lan
             threads,
             lane,
         };
-        let frame = frame(entry.alloc, entry.structs, entry.function, at)?;
+        let variables = values_at_first(entry.alloc, entry.structs, entry.function, at)?;
         list.push(Lane {
-            frame,
+            variables,
             returned: false,
         })?;
     }
@@ -138,7 +138,7 @@ fn run_entry(
     let lanes = lanes_of(entry, group, count)?;
     let world = world_of(entry, launch, buffers)?;
     let state = State {
-        frame: no_frame(entry.alloc),
+        variables: WordLists::new(entry.alloc),
         world,
     };
     let mut run = Run { state, turns };

@@ -9,7 +9,7 @@ use std::mem;
 use wg_evaluation::Run;
 use wg_machine::{Halt, Unit};
 use wg_meaning::{body, test};
-use wg_semantics::{Flow, Frame, Lane};
+use wg_semantics::{Flow, Lane};
 use wg_typed::{Typed, TypedExpr, TypedFunction, TypedStmt};
 use wg_values::{Setting, Structs};
 use wg_words::{Items, Word, WordLists};
@@ -53,14 +53,6 @@ fn is_return(end: &Flow) -> bool
     }
 }
 
-/// A frame without variables.
-pub fn no_frame(alloc: Global) -> Frame {
-    Frame {
-        parameters: WordLists::new(alloc),
-        locals: WordLists::new(alloc),
-    }
-}
-
 fn run_body(
     entry: &Entry<'_>,
     statements: &[TypedStmt],
@@ -72,7 +64,7 @@ fn run_body(
     body(&setting_at(entry, number), statements, run)
 }
 
-/// Runs statements on a lane, unless it has returned. The frame of `run` is only where the lane's stands meanwhile.
+/// Runs statements on a lane, unless it has returned. The variables of `run` are only where the lane's stand meanwhile.
 fn run_lane(
     entry: &Entry<'_>,
     statements: &[TypedStmt],
@@ -85,11 +77,11 @@ fn run_lane(
     if lane.returned {
         return Ok(lane);
     }
-    run.state.frame = lane.frame;
+    run.state.variables = lane.variables;
     let end = run_body(entry, statements, number, run)?;
-    let frame = mem::replace(&mut run.state.frame, no_frame(entry.alloc));
+    let variables = mem::replace(&mut run.state.variables, WordLists::new(entry.alloc));
     Ok(Lane {
-        frame,
+        variables,
         returned: is_return(&end),
     })
 }
@@ -107,10 +99,7 @@ pub fn run_lanes(
     let mut done = Items::new(entry.alloc);
     let mut number: u32 = 0;
     for lane in lanes.into_vec() {
-        let lane = match run_lane(entry, statements, number, lane, run) {
-            Ok(lane) => lane,
-            Err(halt) => return Err(halt),
-        };
+        let lane = run_lane(entry, statements, number, lane, run)?;
         done.push(lane)?;
         number = match number.checked_add(1) {
             Some(next) => next,
@@ -120,15 +109,15 @@ pub fn run_lanes(
     Ok(done)
 }
 
-/// Gives lane 0 another frame, and its own one back.
+/// Gives lane 0 the words of other variables, and its own ones back.
 #[tactic(auto, using(crate::proofs::LaneRuns::set_first, crate::proofs::LaneRuns::is_first))]
-fn swap_frame(list: &mut Vec<Lane>, frame: Frame) -> Frame
+fn swap_first(list: &mut Vec<Lane>, variables: WordLists) -> WordLists
     requires some { 0 < length list.old.items }
     ensures value { IsFirst result list.old.items }
-    ensures after { list.new.items ≡ with_first frame list.old.items }
+    ensures after { list.new.items ≡ with_first variables list.old.items }
 {
     let lane = &mut list[0];
-    mem::replace(&mut lane.frame, frame)
+    mem::replace(&mut lane.variables, variables)
 }
 
 fn run_test(entry: &Entry<'_>, e: &TypedExpr, run: &mut Run) -> Result<Word, Halt>
@@ -150,9 +139,9 @@ pub fn test_first(
     if list.is_empty() {
         return Ok((0, Items::from_vec(list)));
     }
-    run.state.frame = swap_frame(&mut list, no_frame(entry.alloc));
+    run.state.variables = swap_first(&mut list, WordLists::new(entry.alloc));
     let word = run_test(entry, e, run)?;
-    let frame = mem::replace(&mut run.state.frame, no_frame(entry.alloc));
-    let _empty = swap_frame(&mut list, frame);
+    let variables = mem::replace(&mut run.state.variables, WordLists::new(entry.alloc));
+    let _empty = swap_first(&mut list, variables);
     Ok((word, Items::from_vec(list)))
 }

@@ -1,5 +1,6 @@
 ghost use Rattle.std.specs.Prelude.{◌≡◌, [], ◌∷◌, option_map, true};
-ghost use Rattle.wg_semantics.specs.LaunchMeaning.{Doing, entry_does, entry_doing, lanes_run, after_run, phases_run, body_runs, is_last as ends_record, starts_last as starts_with_last, declares_last as declares_with_last, other_runs, part_of};
+ghost use Rattle.wg_typed.specs.Uniform.{is_finished};
+ghost use Rattle.wg_semantics.specs.LaunchMeaning.{Doing, entry_does, entry_doing, lanes_run, after_run, phases_run, body_runs, starts_last as starts_with_last, declares_last as declares_with_last, other_runs, part_of};
 ghost use Rattle.wg_evaluation.specs.Says.{Says};
 ghost use Rattle.wg_launch.specs.ByLanes.{goes_by_lanes};
 
@@ -14,7 +15,7 @@ use wg_words::Items;
 
 /// Whether an expression is `FinishedCrossGroupSharing()`.
 fn is_last(e: &TypedExpr) -> bool
-    ensures { result ≡ ends_record e.now }
+    ensures { result ≡ is_finished e.now.kind }
 {
     matches!(e.kind, TypedKind::Finished)
 }

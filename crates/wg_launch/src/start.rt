@@ -1,11 +1,10 @@
-ghost use Rattle.std.specs.Prelude.{◌≡◌, ◌*◌, ◌/◌, ◌%◌, IfOk, map, take};
-ghost use Rattle.wg_semantics.specs.LaunchMeaning.{system_words, entry_value, first_frame, first_shared};
+ghost use Rattle.std.specs.Prelude.{◌≡◌, ◌*◌, ◌/◌, ◌%◌, IfOk, take};
+ghost use Rattle.wg_semantics.specs.LaunchMeaning.{system_words, begins_with, first_value, first_values, first_shared};
 ghost use Rattle.wg_state.specs.Lanes.{coordinates_of, dispatch_of};
 
 use std::alloc::{AllocError, Global};
-use wg_semantics::Frame;
-use wg_typed::{SystemValue, TypedFunction, TypedParameter, TypedShared};
-use wg_values::{Structs, fresh, parameter_size, zero_value};
+use wg_typed::{SystemValue, TypedFunction, TypedShared, TypedVariable};
+use wg_values::{Structs, zero_value, zero_words};
 use wg_words::{Word, WordLists, Words, add, mul};
 
 fn quotient(a: u64, b: u64) -> u64
@@ -48,24 +47,21 @@ fn dispatch(group: [Word; 3], threads: [Word; 3], lane: u32) -> [Word; 3]
     ]
 }
 
-/// The words of a system value, if a parameter has one.
+/// The words of a system value.
 fn system_value(
     alloc: Global,
     group: [Word; 3],
     threads: [Word; 3],
     lane: u32,
-    system: Option<SystemValue>,
+    value: SystemValue,
 ) -> Result<Words, AllocError>
-    ensures { IfOk result (λ list. list ≡ system_words group threads lane system) }
+    ensures { IfOk result (λ list. list ≡ system_words group threads lane value) }
 {
-    match system {
-        None => Ok(Words::new(alloc)),
-        Some(SystemValue::GroupId) => Words::from_slice(alloc, &group),
-        Some(SystemValue::GroupThreadId) => Words::from_slice(alloc, &coordinates(threads, lane)),
-        Some(SystemValue::DispatchThreadId) => {
-            Words::from_slice(alloc, &dispatch(group, threads, lane))
-        }
-        Some(SystemValue::GroupIndex) => Words::from_slice(alloc, &[lane]),
+    match value {
+        SystemValue::GroupId => Words::from_slice(alloc, &group),
+        SystemValue::GroupThreadId => Words::from_slice(alloc, &coordinates(threads, lane)),
+        SystemValue::DispatchThreadId => Words::from_slice(alloc, &dispatch(group, threads, lane)),
+        SystemValue::GroupIndex => Words::from_slice(alloc, &[lane]),
     }
 }
 
@@ -87,30 +83,47 @@ pub struct LaneSpot {
     pub lane: u32,
 }
 
-fn parameter_value(
+/// So many words of a system value, or zeros where there is none.
+fn words_at_first(
     alloc: Global,
-    structs: &Structs<'_>,
     at: LaneSpot,
-    p: &TypedParameter,
+    count: u64,
+    system: Option<SystemValue>,
 ) -> Result<Words, AllocError>
-    ensures { IfOk result (λ list. list ≡ entry_value structs.now at.group at.threads at.lane p.now) }
+    ensures { IfOk result (λ list. list ≡ begins_with at.group at.threads at.lane count system) }
 {
-    let count = parameter_size(structs, p.of)?;
-    let words = system_value(alloc, at.group, at.threads, at.lane, p.system)?;
-    first_words(alloc, words.as_slice(), count)
+    match system {
+        None => zero_words(alloc, count),
+        Some(value) => {
+            let words = system_value(alloc, at.group, at.threads, at.lane, value)?;
+            first_words(alloc, words.as_slice(), count)
+        }
+    }
 }
 
-fn parameter_values(
+fn value_at_first(
     alloc: Global,
     structs: &Structs<'_>,
     at: LaneSpot,
-    parameters: &[TypedParameter],
+    v: &TypedVariable,
+) -> Result<Words, AllocError>
+    ensures { IfOk result (λ list. list ≡ first_value structs.now at.group at.threads at.lane v.now) }
+{
+    words_at_first(alloc, at, structs.words(v.of)?, v.system)
+}
+
+/// The variables of an entry function as a lane begins.
+pub fn values_at_first(
+    alloc: Global,
+    structs: &Structs<'_>,
+    f: &TypedFunction,
+    at: LaneSpot,
 ) -> Result<WordLists, AllocError>
-    ensures { IfOk result (λ list. list ≡ map (entry_value structs.now at.group at.threads at.lane) parameters.now) }
+    ensures { IfOk result (λ list. list ≡ first_values structs.now f.now at.group at.threads at.lane) }
 {
     let mut list = WordLists::new(alloc);
-    for p in parameters {
-        list.push(parameter_value(alloc, structs, at, p)?)?;
+    for v in f.variables.as_slice() {
+        list.push(value_at_first(alloc, structs, at, v)?)?;
     }
     Ok(list)
 }
@@ -128,18 +141,4 @@ pub fn shared(
         list.push(zero_value(alloc, structs, v.of)?)?;
     }
     Ok(list)
-}
-
-/// What a lane begins with.
-pub fn frame(
-    alloc: Global,
-    structs: &Structs<'_>,
-    f: &TypedFunction,
-    at: LaneSpot,
-) -> Result<Frame, AllocError>
-    ensures { IfOk result (λ frame. frame ≡ first_frame structs.now f.now at.group at.threads at.lane) }
-{
-    let parameters = parameter_values(alloc, structs, at, f.parameters.as_slice())?;
-    let locals = fresh(alloc, structs, f.locals.as_slice())?;
-    Ok(Frame { parameters, locals })
 }

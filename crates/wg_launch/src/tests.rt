@@ -63,7 +63,7 @@ fn fork(alloc: Global) -> Built<Typed> {
         result: None,
         name: unnamed(alloc),
         parameters: Items::new(alloc),
-        locals: Items::new(alloc),
+        variables: Items::new(alloc),
         handles: handles(alloc)?,
         body: requests(alloc)?,
     };

@@ -2,5 +2,4 @@ pub mod Branches
 pub mod Loops
 pub mod Numbered
 pub mod Sequences
-pub mod Within
 pub mod Words

@@ -13,8 +13,7 @@ use Rattle.wg_semantics.specs.StepMeaning.{word_at}
 
 pub word_same : (structs : List TypedStruct) (p : Spot) (s : State) → slice_index (fetched structs (type.Scalar scalar.Uint) p s) 0 ≡ word_at p s
 word_same structs (spot.Value words) s = refl
-word_same structs (spot.At (store.Local local) from) s = refl
-word_same structs (spot.At (store.Parameter parameter) from) s = refl
+word_same structs (spot.At (store.Variable variable) from) s = refl
 word_same structs (spot.At (store.Shared variable) from) s = refl
 word_same structs (spot.At (store.Buffer buffer) from) s = refl
 word_same structs (spot.At (store.Input number) from) s = refl

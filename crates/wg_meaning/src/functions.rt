@@ -1,18 +1,17 @@
-ghost use Rattle.std.specs.Prelude.{◌≡◌, ◌≤◌, ◌<◌, suc, IfOk, OnSome, length, take, slice_get};
+ghost use Rattle.std.specs.Prelude.{◌≡◌, ◌≤◌, ◌<◌, ◌↔◌, suc, IfOk, IsTrue};
 ghost use Rattle.wg_semantics.specs.Calls.{callee_at, on_world};
 ghost use Rattle.wg_semantics.specs.FunctionMeaning.{result_words, result_of, function_does};
 ghost use Rattle.wg_values.specs.Pieces.{setting_of};
-ghost use Rattle.std.specs.Option.{option_copied};
 ghost use Rattle.wg_evaluation.specs.Says.{Runs, within, callees_in};
 
 use crate::stmt::block;
 use std::alloc::AllocError;
 use std::mem;
-use wg_evaluation::{Calls, Run};
+use wg_evaluation::{Calls, Run, function_at};
 use wg_machine::Halt;
-use wg_semantics::{Flow, Frame, callees_are_functions};
+use wg_semantics::{Flow, callees_are_functions};
 use wg_typed::{TypeTree, TypedFunction};
-use wg_values::{Setting, fresh, zero_words};
+use wg_values::{Setting, first_variables, zero_words};
 use wg_words::{WordLists, Words};
 
 /// The words of a function's result; `void` has none.
@@ -38,7 +37,7 @@ fn result_at(setting: &Setting<'_>, of: Option<TypeTree>, end: Flow) -> Result<W
     }
 }
 
-/// Runs a function on its parameters' values, in a frame of its own.
+/// Runs a function on its parameters' values, with variables of its own.
 fn function<C: Calls>(
     setting: &Setting<'_>,
     calls: &C,
@@ -49,33 +48,24 @@ fn function<C: Calls>(
     ensures says { Runs (on_world (within (C.reach calls.now) setting.now function_does f.now values)) run.old result run.new }
     ensures turns { run.new.turns ≤ run.old.turns }
 {
-    let locals = fresh(setting.alloc, setting.structs, f.locals.as_slice())?;
-    let frame = Frame {
-        parameters: values,
-        locals,
-    };
-    let callers = mem::replace(&mut run.state.frame, frame);
+    let variables = first_variables(
+        setting.alloc,
+        setting.structs,
+        f.variables.as_slice(),
+        values,
+    )?;
+    let callers = mem::replace(&mut run.state.variables, variables);
     let end = block(setting, calls, f.body.as_slice(), run)?;
-    let frame = mem::replace(&mut run.state.frame, callers);
+    let variables = mem::replace(&mut run.state.variables, callers);
     let words = result_at(setting, f.result, end)?;
-    Ok((words, frame.parameters))
+    Ok((words, variables))
 }
 
-/// The function of a number, where calls reach one more than those that it may call itself.
-#[tactic(auto, using(crate::proofs::Within::got_within, crate::proofs::Within::got_beyond))]
-fn next_callee<'a, C: Calls>(
-    setting: &Setting<'a>,
-    calls: &C,
-    number: u32,
-) -> Option<&'a TypedFunction>
-    ensures value { option_copied result ≡ slice_get (take (suc (C.reach calls.now)) setting.now.earlier.now) number }
-    ensures within { OnSome result (number < length setting.now.earlier.now) }
+/// Whether the function of a number is one of those that calls reach, or the next one.
+fn reaches_next<C: Calls>(calls: &C, number: u32) -> bool
+    ensures { IsTrue result ↔ (number < suc (C.reach calls.now)) }
 {
-    if number == 0 || calls.reaches(number - 1) {
-        setting.earlier.get(number as usize)
-    } else {
-        None
-    }
+    number == 0 || calls.reaches(number - 1)
 }
 
 /// Runs a function by its number; it may call only those before it.
@@ -90,7 +80,7 @@ pub fn numbered<C: Calls>(
     ensures turns { run.new.turns ≤ run.old.turns }
 {
     callees_are_functions();
-    let f = match next_callee(setting, calls, number) {
+    let f = match function_at(setting, number, reaches_next(calls, number)) {
         Some(f) => f,
         None => return Ok((Words::new(setting.alloc), WordLists::new(setting.alloc))),
     };

@@ -1,9 +1,8 @@
-ghost use Rattle.std.specs.Prelude.{◌≡◌, ◌≤◌, ◌/◌, IfOk, false};
-ghost use Rattle.wg_typed.specs.Operators.{is_wide};
+ghost use Rattle.std.specs.Prelude.{◌≡◌, ◌≤◌, ◌/◌, IfOk};
 ghost use Rattle.wg_semantics.specs.declared.state.Store.TheVariants as store;
 ghost use Rattle.wg_semantics.specs.declared.state.Spot.TheVariants as spot;
 ghost use Rattle.wg_semantics.specs.ExprMeaning.{seen};
-ghost use Rattle.wg_semantics.specs.StepMeaning.{assigned, updated, changed, raw_stored, exchanged, signedness, destination_of, maybe_word, maybe_spot, word_at as word_there, interlocked, step_does, steps_do, start_value, declared_as, all_declared, started};
+ghost use Rattle.wg_semantics.specs.StepMeaning.{assigned, updated, changed, raw_stored, atomic_of, destination_of, maybe_word, maybe_spot, word_at as word_there, interlocked, step_does, steps_do, start_value, declared_as, all_declared, started};
 ghost use Rattle.wg_values.specs.Pieces.{setting_of};
 ghost use Rattle.wg_evaluation.specs.Says.{Runs, within};
 ghost use Rattle.wg_meaning.specs.Flows.{raw_destination_of};
@@ -11,17 +10,15 @@ ghost use Rattle.wg_meaning.specs.Flows.{raw_destination_of};
 use sqlite_items::Items;
 use std::alloc::AllocError;
 use wg_evaluation::{Calls, Run, call, spot, value, word};
-use wg_machine::Halt;
+use wg_machine::{Atomic, Halt};
 use wg_semantics::{Spot, State, Store};
 use wg_tree::{BinaryOperator, Scalar, StepOperator};
 use wg_typed::{
     Destination, Interlocked, InterlockedForm, TypeTree, TypedDeclarator, TypedExpr, TypedStart,
     TypedStep,
 };
-use wg_values::{
-    Setting, combine_all, convert, fetch, greater, lesser, step_all, word_at, write, zero_value,
-};
-use wg_words::{Word, Words, add};
+use wg_values::{Setting, combine_all, convert, fetch, step_all, word_at, write, zero_value};
+use wg_words::{Word, Words};
 
 fn assign<C: Calls>(
     setting: &Setting<'_>,
@@ -118,29 +115,31 @@ fn raw_store<C: Calls>(
     Ok(())
 }
 
-fn kind_of_words(signed: bool) -> Scalar
-    ensures kind { result ≡ signedness signed }
-    ensures narrow { is_wide result ≡ false }
-{
-    if signed { Scalar::Int } else { Scalar::Uint }
-}
-
-/// What an interlocked form leaves in place of the old word.
-fn exchange(form: InterlockedForm, s: Scalar, old: Word, compare: Word, value: Word) -> Word
-    requires narrow { is_wide s ≡ false }
-    ensures { result ≡ exchanged form s old compare value }
+/// What an interlocked form does to a word of the machine.
+fn atomic(form: InterlockedForm, signed: bool) -> Atomic
+    ensures { result ≡ atomic_of form signed }
 {
     match form {
-        InterlockedForm::Add => add(old, value),
-        InterlockedForm::Min => lesser(s, old, value),
-        InterlockedForm::Max => greater(s, old, value),
-        InterlockedForm::And => old & value,
-        InterlockedForm::Or => old | value,
-        InterlockedForm::Xor => old ^ value,
-        InterlockedForm::Exchange => value,
-        InterlockedForm::CompareExchange | InterlockedForm::CompareStore => {
-            if old == compare { value } else { old }
+        InterlockedForm::Add => Atomic::Add,
+        InterlockedForm::Min => {
+            if signed {
+                Atomic::MinSigned
+            } else {
+                Atomic::Min
+            }
         }
+        InterlockedForm::Max => {
+            if signed {
+                Atomic::MaxSigned
+            } else {
+                Atomic::Max
+            }
+        }
+        InterlockedForm::And => Atomic::And,
+        InterlockedForm::Or => Atomic::Or,
+        InterlockedForm::Xor => Atomic::Xor,
+        InterlockedForm::Exchange => Atomic::Exchange,
+        InterlockedForm::CompareExchange | InterlockedForm::CompareStore => Atomic::CompareExchange,
     }
 }
 
@@ -230,7 +229,7 @@ fn interlock<C: Calls>(
     let value = word(setting, calls, &i.value, run)?;
     let back = optional_spot(setting, calls, &i.old, run)?;
     let old = one_word(setting, &at, &run.state)?;
-    let left = exchange(i.form, kind_of_words(i.signed), old, compare, value);
+    let left = atomic(i.form, i.signed).exchanged(old, compare, value);
     write(setting.alloc, &at, &[left], &mut run.state);
     write(setting.alloc, &back, &[old], &mut run.state);
     Ok(())
@@ -291,7 +290,7 @@ pub fn steps<C: Calls>(
     Ok(())
 }
 
-/// What a local starts with: its start value, or zeros.
+/// What a variable starts with: its start value, or zeros.
 fn start_words<C: Calls>(
     setting: &Setting<'_>,
     calls: &C,
@@ -319,7 +318,9 @@ fn declare<C: Calls>(
 {
     let words = start_words(setting, calls, d.of, &d.value, run)?;
     let at = Spot::At {
-        store: Store::Local { local: d.local },
+        store: Store::Variable {
+            variable: d.variable,
+        },
         from: 0,
     };
     write(setting.alloc, &at, words.as_slice(), &mut run.state);

@@ -2,7 +2,7 @@ ghost use Rattle.std.specs.Prelude.{◌≡◌, ◌≤◌, ◌<◌, OnOk, option_
 ghost use Rattle.wg_state.specs.Turns.{Done, pure};
 ghost use Rattle.wg_semantics.specs.ExprMeaning.{seen, word_of};
 ghost use Rattle.wg_semantics.specs.StepMeaning.{steps_do, started};
-ghost use Rattle.wg_semantics.specs.StmtMeaning.{loop as looped, test_of, of_group, is_group_handle, asks, completes, maybe_else, returned, does, body_does};
+ghost use Rattle.wg_semantics.specs.StmtMeaning.{loop as looped, on, test_of, of_group, is_group_handle, asks, completes, maybe_else, returned, does, body_does};
 ghost use Rattle.wg_meaning.specs.Flows.{begun, entered, goes_on as flow_goes_on, loop_left, next_result};
 ghost use Rattle.wg_values.specs.Pieces.{setting_of};
 ghost use Rattle.wg_evaluation.specs.Says.{Runs, within};
@@ -85,14 +85,14 @@ fn group_request<C: Calls>(
     element: &Option<TypedExpr>,
     amount: &TypedExpr,
     run: &mut Run,
-) -> Result<(), Halt>
-    ensures says { Runs (of_group (setting_of setting.now) group (within (C.reach calls.now) setting.now asks handle output element.now amount.now)) run.old result run.new }
+) -> Result<Flow, Halt>
+    ensures says { Runs (on (of_group (setting_of setting.now) group (within (C.reach calls.now) setting.now asks handle output element.now amount.now))) run.old result run.new }
     ensures turns { run.new.turns ≤ run.old.turns }
 {
     if group && setting.lane != 0 {
-        return Ok(());
+        return Ok(Flow::Next);
     }
-    request(setting, calls, handle, output, element, amount, run)
+    next(request(setting, calls, handle, output, element, amount, run))
 }
 
 fn is_group(setting: &Setting<'_>, handle: u32) -> bool
@@ -105,15 +105,16 @@ fn is_group(setting: &Setting<'_>, handle: u32) -> bool
 }
 
 /// `OutputComplete`; of a group handle it is lane 0's alone.
-fn complete(setting: &Setting<'_>, handle: u32, run: &mut Run)
-    ensures says { of_group (setting_of setting.now) (is_group_handle (setting_of setting.now) handle) (completes (setting_of setting.now) handle) run.old.state run.old.turns ≡ Done tt run.new.state run.new.turns }
+fn complete(setting: &Setting<'_>, handle: u32, run: &mut Run) -> Flow
+    ensures says { on (of_group (setting_of setting.now) (is_group_handle (setting_of setting.now) handle) (completes (setting_of setting.now) handle)) run.old.state run.old.turns ≡ Done result run.new.state run.new.turns }
     ensures turns { run.new.turns ≡ run.old.turns }
 {
     if is_group(setting, handle) && setting.lane != 0 {
-        return;
+        return Flow::Next;
     }
     let grant = grant(setting, handle, &run.state);
     close(setting.alloc, grant, &mut run.state.world);
+    Flow::Next
 }
 
 fn give_back<C: Calls>(
@@ -296,7 +297,7 @@ pub fn stmt<C: Calls>(
             output,
             element,
             amount,
-        } => next(group_request(
+        } => group_request(
             setting,
             calls,
             Some(*handle),
@@ -305,17 +306,14 @@ pub fn stmt<C: Calls>(
             element,
             amount,
             run,
-        )),
+        ),
         TypedStmt::Increment {
             group,
             output,
             element,
             amount,
-        } => next(group_request(setting, calls, None, *group, *output, element, amount, run)),
-        TypedStmt::Complete { handle } => {
-            complete(setting, *handle, run);
-            Ok(Flow::Next)
-        }
+        } => group_request(setting, calls, None, *group, *output, element, amount, run),
+        TypedStmt::Complete { handle } => Ok(complete(setting, *handle, run)),
         TypedStmt::Step { step: part } => next(step(setting, calls, part, run)),
         TypedStmt::Break => Ok(Flow::Broke),
         TypedStmt::Continue => Ok(Flow::Continued),

@@ -3,8 +3,6 @@ use Rattle.std.specs.Prelude.{ℕ, List, [], ◌∷◌, map, Option, Some, None,
 use Rattle.wg_state.specs.Turns.{Ending, Spent, Done, Action, ◌>>=◌, ◌>>◌, pure, read, change}
 use Rattle.wg_tree.specs.declared.item.Direction.{Direction}
 use Rattle.wg_tree.specs.declared.item.Direction.TheVariants as direction
-use Rattle.wg_tree.specs.declared.item.Directed.{Directed}
-use Rattle.wg_semantics.specs.declared.state.Frame.{Frame}
 use Rattle.wg_state.specs.declared.world.World.{World}
 use Rattle.wg_semantics.specs.declared.state.State.{State}
 use Rattle.wg_semantics.specs.declared.state.Passed.{Passed}
@@ -14,6 +12,7 @@ use Rattle.wg_typed.specs.declared.typed.TypedParameter.{TypedParameter}
 use Rattle.wg_typed.specs.declared.typed.TypedParameterType.{TypedParameterType}
 use Rattle.wg_typed.specs.declared.typed.TypedParameterType.TheVariants as parameter
 use Rattle.wg_typed.specs.declared.typed.TypedStruct.{TypedStruct}
+use Rattle.wg_typed.specs.Directions.{direction_of}
 use Rattle.wg_typed.specs.Layout.{words_of}
 use Rattle.wg_semantics.specs.Places.{fetched, written}
 use Rattle.wg_state.specs.WordLists.{zeros}
@@ -23,7 +22,8 @@ pub record Seen : Type 0 where
   pub of : TypeTree
   pub spot : Action State Spot
 
--- What a function does with its parameters' values and what the lanes share: its result's words, and its parameters as it leaves them.
+-- What a function does with its parameters' values and what the lanes share: its result's words, and its variables as it leaves them, of which
+-- the first are its parameters.
 pub record Callee : Type 0 where
   pub parameters : List TypedParameter
   pub does : List (List ℕ) → Action World (List ℕ × List (List ℕ))
@@ -44,18 +44,14 @@ abbrev pub value_of : List TypedStruct → Seen → Action State (List ℕ)
 value_of structs e = e.spot >>= (λ spot. read (fetched structs e.of spot))
 
 -- a step on what the lanes share alone
-abbrev pub with_frame : {A : Type 0} → Frame → Ending World A → Ending State A
-with_frame frame Spent = Spent
-with_frame frame (Done a w t) = Done a (record { frame = frame; world = w }) t
+abbrev pub with_variables : {A : Type 0} → List (List ℕ) → Ending World A → Ending State A
+with_variables variables Spent = Spent
+with_variables variables (Done a w t) = Done a (record { variables = variables; world = w }) t
 
 abbrev pub on_world : {A : Type 0} → Action World A → Action State A
-on_world m = λ s t. with_frame s.frame (m s.world t)
+on_world m = λ s t. with_variables s.variables (m s.world t)
 
 -- ---- arguments
-
-abbrev pub direction_in : Option Directed → Direction
-direction_in None = direction.In
-direction_in (Some d) = d.direction
 
 -- the words of a parameter; an object has none
 abbrev pub parameter_words : List TypedStruct → TypedParameterType → ℕ
@@ -77,7 +73,7 @@ passed_by structs direction.InOut n e = do
   pure (record { words = words; back = Some spot })
 
 abbrev pub passed : List TypedStruct → TypedParameter → Seen → Action State Passed
-passed structs p e = passed_by structs (direction_in p.direction) (parameter_words structs p.of) e
+passed structs p e = passed_by structs (direction_of p.direction) (parameter_words structs p.of) e
 
 -- the arguments from left to right, each by its parameter
 abbrev pub all_passed : List TypedStruct → List TypedParameter → List Seen → Action State (List Passed)

@@ -126,15 +126,14 @@ valued m = m >>= (λ words. pure (spot.Value words))
 
 abbrev pub kind_step : Setting → List Callee → TypedKind-F Follows (TypeTree → Action State Spot) Seen Linked → TypeTree → Action State Spot
 kind_step setting callees (TypedKind-F.Literal words) t = pure (spot.Value words)
-kind_step setting callees (TypedKind-F.Local local) t = pure (spot.At (store.Local local) 0)
-kind_step setting callees (TypedKind-F.Parameter parameter) t = pure (spot.At (store.Parameter parameter) 0)
+kind_step setting callees (TypedKind-F.Variable variable) t = pure (spot.At (store.Variable variable) 0)
 kind_step setting callees (TypedKind-F.Shared variable) t = pure (spot.At (store.Shared variable) 0)
 kind_step setting callees (TypedKind-F.Element buffer index) t = do
-  at ← value_of setting.structs index
-  read (buffer_element buffer (words_of setting.structs t) (slice_index at 0))
+  at ← word_of setting index
+  read (buffer_element buffer (words_of setting.structs t) at)
 kind_step setting callees (TypedKind-F.Load buffer address) t = do
-  at ← value_of setting.structs address
-  valued (read (λ s. words_from (list_at s.world.buffers buffer) (slice_index at 0 / 4) (words_of setting.structs t)))
+  at ← word_of setting address
+  valued (read (λ s. words_from (list_at s.world.buffers buffer) (at / 4) (words_of setting.structs t)))
 kind_step setting callees (TypedKind-F.Input index) t = do
   at ← index_of setting index
   read (input_record at)
@@ -159,8 +158,8 @@ kind_step setting callees (TypedKind-F.Chain first rest) t = do
   words ← value_of setting.structs first
   valued (chained rest first.of words)
 kind_step setting callees (TypedKind-F.Choice test first other) t = do
-  c ← value_of setting.structs test
-  valued (when (slice_index c 0) (value_of setting.structs first) (value_of setting.structs other))
+  c ← word_of setting test
+  valued (when c (value_of setting.structs first) (value_of setting.structs other))
 kind_step setting callees (TypedKind-F.Construct parts) t = do
   values ← each (map (value_of setting.structs) parts)
   pure (spot.Value (put values))

@@ -1,5 +1,5 @@
 -- What a plain function does, from what the functions before it do: its locals are zeros, and its result is what it returns, or zeros.
-use Rattle.std.specs.Prelude.{ℕ, List, [], ◌∷◌, ◌++◌, map, Option, Some, None}
+use Rattle.std.specs.Prelude.{ℕ, List, [], ◌∷◌, ◌++◌, map, length, drop, Option, Some, None}
 use Rattle.wg_state.specs.Turns.{Ending, Spent, Done, Action}
 use Rattle.wg_semantics.specs.declared.state.State.{State}
 use Rattle.wg_state.specs.declared.world.World.{World}
@@ -7,7 +7,7 @@ use Rattle.wg_semantics.specs.declared.state.Flow.{Flow}
 use Rattle.wg_semantics.specs.declared.state.Flow.TheVariants as flow
 use Rattle.wg_typed.specs.declared.types.TypeTree.{TypeTree}
 use Rattle.wg_typed.specs.declared.typed.TypedFunction.{TypedFunction}
-use Rattle.wg_typed.specs.declared.typed.TypedLocal.{TypedLocal}
+use Rattle.wg_typed.specs.declared.typed.TypedVariable.{TypedVariable}
 use Rattle.wg_typed.specs.declared.typed.TypedStruct.{TypedStruct}
 use Rattle.wg_typed.specs.Layout.{words_of}
 use Rattle.wg_semantics.specs.Places.{Setting}
@@ -15,9 +15,13 @@ use Rattle.wg_state.specs.WordLists.{zeros}
 use Rattle.wg_semantics.specs.Calls.{Callee}
 use Rattle.wg_semantics.specs.StmtMeaning.{body_does}
 
--- the values of locals before they are declared
-abbrev pub fresh_locals : List TypedStruct → List TypedLocal → List (List ℕ)
-fresh_locals structs locals = map (λ (l : TypedLocal). zeros (words_of structs l.of)) locals
+-- the values of variables before they are declared
+abbrev pub fresh : List TypedStruct → List TypedVariable → List (List ℕ)
+fresh structs variables = map (λ (v : TypedVariable). zeros (words_of structs v.of)) variables
+
+-- a function's variables as it begins: its parameters' values, which it is given, and its locals
+abbrev pub given_first : List TypedStruct → List TypedVariable → List (List ℕ) → List (List ℕ)
+given_first structs variables values = values ++ fresh structs (drop (length values) variables)
 
 -- `void` has no words
 abbrev pub result_words : List TypedStruct → Option TypeTree → ℕ
@@ -32,12 +36,12 @@ result_of n (flow.Returned words) = words
 
 abbrev pub leaves : ℕ → Ending State Flow → Ending World (List ℕ × List (List ℕ))
 leaves n Spent = Spent
-leaves n (Done end s t) = Done (result_of n end, s.frame.parameters) s.world t
+leaves n (Done end s t) = Done (result_of n end, s.variables) s.world t
 
 abbrev pub function_does : Setting → List Callee → TypedFunction → List (List ℕ) → Action World (List ℕ × List (List ℕ))
 function_does setting callees f values = λ w t.
     leaves (result_words setting.structs f.result)
-    (body_does setting callees f.body (record { frame = record { parameters = values; locals = fresh_locals setting.structs f.locals }; world = w }) t)
+    (body_does setting callees f.body (record { variables = given_first setting.structs f.variables values; world = w }) t)
 
 abbrev pub callee_of : Setting → List Callee → TypedFunction → Callee
 callee_of setting callees f = record { parameters = f.parameters; does = function_does setting callees f }

@@ -12,31 +12,29 @@ use Rattle.wg_state.specs.WordLists.{zeros}
 use Rattle.wg_state.specs.declared.world.World.{World}
 use Rattle.wg_words.specs.Truth.{is_true}
 use Rattle.wg_semantics.specs.declared.state.Body.{Body}
-use Rattle.wg_semantics.specs.declared.state.Frame.{Frame}
 use Rattle.wg_semantics.specs.declared.state.State.{State}
 use Rattle.wg_semantics.specs.declared.state.Flow.{Flow}
 use Rattle.wg_semantics.specs.declared.state.Flow.TheVariants as flow
 use Rattle.wg_semantics.specs.declared.state.Lane.{Lane}
 use Rattle.wg_typed.specs.declared.typed.Typed.{Typed}
 use Rattle.wg_typed.specs.declared.typed.TypedFunction.{TypedFunction}
-use Rattle.wg_typed.specs.declared.typed.TypedParameter.{TypedParameter}
+use Rattle.wg_typed.specs.declared.typed.TypedVariable.{TypedVariable}
 use Rattle.wg_typed.specs.declared.typed.TypedShared.{TypedShared}
 use Rattle.wg_typed.specs.declared.typed.TypedStruct.{TypedStruct}
 use Rattle.wg_typed.specs.declared.typed.SystemValue.{SystemValue}
 use Rattle.wg_typed.specs.declared.typed.SystemValue.TheVariants as system
 use Rattle.wg_typed.specs.declared.typed_expr.TypedExpr.{TypedExpr}
-use Rattle.wg_typed.specs.declared.typed_expr.Access.TheFolds.{fold-TypedExpr}
-use Rattle.wg_typed.specs.declared.typed_expr.Access.TheOpen.{TypedKind-F}
 use Rattle.wg_typed.specs.declared.typed_stmt.TypedDeclarator.{TypedDeclarator}
 use Rattle.wg_typed.specs.declared.typed_stmt.TypedStmt.{TypedStmt, roll-TypedStmt, map-TypedStmt}
 use Rattle.wg_typed.specs.declared.typed_stmt.TypedStmt.TheFolds.{fold-TypedStmt}
 use Rattle.wg_typed.specs.declared.typed_stmt.TypedStmt.TheOpen.{TypedStmt-F}
 use Rattle.wg_typed.specs.Layout.{words_of}
+use Rattle.wg_typed.specs.Uniform.{is_finished}
 use Rattle.wg_semantics.specs.Places.{Setting}
-use Rattle.wg_semantics.specs.Calls.{Callee, parameter_words}
+use Rattle.wg_semantics.specs.Calls.{Callee}
 use Rattle.wg_semantics.specs.ExprMeaning.{seen, word_of}
 use Rattle.wg_semantics.specs.StmtMeaning.{body_does}
-use Rattle.wg_semantics.specs.FunctionMeaning.{fresh_locals, callees_of}
+use Rattle.wg_semantics.specs.FunctionMeaning.{callees_of}
 
 -- ---- lanes
 
@@ -48,10 +46,10 @@ has_returned (flow.Returned words) = true
 
 abbrev pub lane_after : Ending State Flow → Ending World Lane
 lane_after Spent = Spent
-lane_after (Done end s t) = Done (record { frame = s.frame; returned = has_returned end }) s.world t
+lane_after (Done end s t) = Done (record { variables = s.variables; returned = has_returned end }) s.world t
 
 abbrev pub lane_runs : Action State Flow → Lane → Action World Lane
-lane_runs body lane = if lane.returned then pure lane else (λ w t. lane_after (body (record { frame = lane.frame; world = w }) t))
+lane_runs body lane = if lane.returned then pure lane else (λ w t. lane_after (body (record { variables = lane.variables; world = w }) t))
 
 -- what is done on a lane, by its number
 abbrev pub LaneActions : Type 0
@@ -104,12 +102,12 @@ block_runs doing parts = phases_run (phases_after doing [] parts)
 
 abbrev pub tested : Lane → List Lane → Ending State ℕ → Ending World (ℕ × List Lane)
 tested lane rest Spent = Spent
-tested lane rest (Done word s t) = Done (word, record { frame = s.frame; returned = lane.returned } ∷ rest) s.world t
+tested lane rest (Done word s t) = Done (word, record { variables = s.variables; returned = lane.returned } ∷ rest) s.world t
 
 -- a test's word on lane 0, and the lanes after the test; 0 where there is no lane
 abbrev pub first_test : Action State ℕ → List Lane → Action World (ℕ × List Lane)
 first_test test [] = pure (0, [])
-first_test test (lane ∷ rest) = λ w t. tested lane rest (test (record { frame = lane.frame; world = w }) t)
+first_test test (lane ∷ rest) = λ w t. tested lane rest (test (record { variables = lane.variables; world = w }) t)
 
 -- one of two by a word, on the lanes after the test
 abbrev pub by_word : OnLanes → OnLanes → ℕ × List Lane → Action World (List Lane)
@@ -128,17 +126,10 @@ pub data Form (A : Type 0) : Type 0 where
   Collective : Form A
   Chosen : TypedExpr → A → Option A → Form A
 
-abbrev pub is_last_kind : TypedKind-F (Unit {0}) Bool Bool (Unit {0}) → Bool
-is_last_kind TypedKind-F.Finished = true
-is_last_kind _ = false
-
--- whether an expression is `FinishedCrossGroupSharing()`
-abbrev pub is_last : TypedExpr → Bool
-is_last = fold-TypedExpr (Unit {0}) Bool Bool (Unit {0}) (λ form. tt) is_last_kind (λ e. e.kind) (λ link. tt)
-
+-- whether a start value is `FinishedCrossGroupSharing()`
 abbrev pub starts_last : Option TypedExpr → Bool
 starts_last None = false
-starts_last (Some e) = is_last e
+starts_last (Some e) = is_finished e.kind
 
 abbrev pub declares_last : List TypedDeclarator → Bool
 declares_last [] = false
@@ -198,25 +189,27 @@ body_runs doing body = block_runs doing (map (part_of doing) body)
 
 -- ---- what a lane begins with
 
--- the words of a system value; none where a parameter has none
-abbrev pub system_words : List ℕ → List ℕ → ℕ → Option SystemValue → List ℕ
-system_words group threads lane None = []
-system_words group threads lane (Some system.DispatchThreadId) = dispatch_of group threads lane
-system_words group threads lane (Some system.GroupId) = group
-system_words group threads lane (Some system.GroupThreadId) = coordinates_of threads lane
-system_words group threads lane (Some system.GroupIndex) = lane ∷ []
+abbrev pub system_words : List ℕ → List ℕ → ℕ → SystemValue → List ℕ
+system_words group threads lane system.DispatchThreadId = dispatch_of group threads lane
+system_words group threads lane system.GroupId = group
+system_words group threads lane system.GroupThreadId = coordinates_of threads lane
+system_words group threads lane system.GroupIndex = lane ∷ []
 
--- a parameter of an entry function: the first components of its system value; an object has no words
-abbrev pub entry_value : List TypedStruct → List ℕ → List ℕ → ℕ → TypedParameter → List ℕ
-entry_value structs group threads lane p = take (parameter_words structs p.of) (system_words group threads lane p.system)
+-- so many words of a variable: the first components of its system value, or zeros where it has none
+abbrev pub begins_with : List ℕ → List ℕ → ℕ → ℕ → Option SystemValue → List ℕ
+begins_with group threads lane words None = zeros words
+begins_with group threads lane words (Some value) = take words (system_words group threads lane value)
 
-abbrev pub first_frame : List TypedStruct → TypedFunction → List ℕ → List ℕ → ℕ → Frame
-first_frame structs f group threads lane =
-    record { parameters = map (entry_value structs group threads lane) f.parameters; locals = fresh_locals structs f.locals }
+abbrev pub first_value : List TypedStruct → List ℕ → List ℕ → ℕ → TypedVariable → List ℕ
+first_value structs group threads lane v = begins_with group threads lane (words_of structs v.of) v.system
 
-abbrev pub first_lanes : (ℕ → Frame) → ℕ → ℕ → List Lane
-first_lanes frame at zero = []
-first_lanes frame at (suc n) = record { frame = frame at; returned = false } ∷ first_lanes frame (suc at) n
+-- the variables of an entry function
+abbrev pub first_values : List TypedStruct → TypedFunction → List ℕ → List ℕ → ℕ → List (List ℕ)
+first_values structs f group threads lane = map (first_value structs group threads lane) f.variables
+
+abbrev pub first_lanes : (ℕ → List (List ℕ)) → ℕ → ℕ → List Lane
+first_lanes values at zero = []
+first_lanes values at (suc n) = record { variables = values at; returned = false } ∷ first_lanes values (suc at) n
 
 -- groupshared words start as zeros at each launch; own
 abbrev pub first_shared : List TypedStruct → List TypedShared → List (List ℕ)
@@ -244,7 +237,7 @@ entry_doing text f unit last = record { body = entry_does text f unit last; test
 
 abbrev pub entry_lanes : Typed → TypedFunction → List ℕ → Launch → List Lane
 entry_lanes text f threads launch =
-    first_lanes (first_frame text.structs f (coordinates_of launch.grid launch.group) threads) 0 (lanes_in threads)
+    first_lanes (first_values text.structs f (coordinates_of launch.grid launch.group) threads) 0 (lanes_in threads)
 
 abbrev pub entry_runs : Typed → TypedFunction → List ℕ → Node → Launch → Action World (List Lane)
 entry_runs text f threads unit launch = body_runs (entry_doing text f unit launch.last) f.body (entry_lanes text f threads launch)

@@ -1,6 +1,5 @@
 -- Where values stand, and how they are read and written there. Reading outside gives zeros, and writing there does nothing; own.
 use Rattle.std.specs.Prelude.{ℕ, Bool, zero, suc, ◌+◌, ◌*◌, nat_lt, nat_le, if◌then◌else◌, List, [], ◌∷◌, length, slice_get, slice_index, slice_set, Option, Some, None}
-use Rattle.wg_semantics.specs.declared.state.Frame.{Frame}
 use Rattle.wg_state.specs.declared.world.World.{World}
 use Rattle.wg_semantics.specs.declared.state.State.{State}
 use Rattle.wg_state.specs.declared.world.Grant.{Grant}
@@ -54,23 +53,21 @@ abbrev pub with_item : List Grant → ℕ → ℕ → List ℕ → List Grant
 with_item grants at item words = with_item_in (slice_get grants at) item words grants at
 
 abbrev pub stored : Store → State → List ℕ
-stored (store.Local local) s = list_at s.frame.locals local
-stored (store.Parameter parameter) s = list_at s.frame.parameters parameter
+stored (store.Variable variable) s = list_at s.variables variable
 stored (store.Shared variable) s = list_at s.world.shared variable
 stored (store.Buffer buffer) s = list_at s.world.buffers buffer
 stored (store.Input number) s = list_at s.world.inputs number
 stored (store.Granted grant item) s = list_at (items_in (slice_get s.world.grants grant)) item
 
-abbrev pub in_frame : (Frame → Frame) → State → State
-in_frame f s = record s { frame = f s.frame }
+abbrev pub in_variables : (List (List ℕ) → List (List ℕ)) → State → State
+in_variables f s = record s { variables = f s.variables }
 
 abbrev pub in_world : (World → World) → State → State
 in_world f s = record s { world = f s.world }
 
 -- the state where a store has these words
 abbrev pub with_stored : Store → List ℕ → State → State
-with_stored (store.Local local) words = in_frame (λ f. record f { locals = slice_set f.locals local words })
-with_stored (store.Parameter parameter) words = in_frame (λ f. record f { parameters = slice_set f.parameters parameter words })
+with_stored (store.Variable variable) words = in_variables (λ values. slice_set values variable words)
 with_stored (store.Shared variable) words = in_world (λ w. record w { shared = slice_set w.shared variable words })
 with_stored (store.Buffer buffer) words = in_world (λ w. record w { buffers = slice_set w.buffers buffer words })
 with_stored (store.Input number) words = in_world (λ w. record w { inputs = slice_set w.inputs number words })
@@ -80,8 +77,7 @@ with_stored (store.Granted grant item) words = in_world (λ w. record w { grants
 
 -- what a buffer or a record of the input holds is made a value of the type as it is read
 abbrev pub as_read : Store → List TypedStruct → TypeTree → List ℕ → List ℕ
-as_read (store.Local local) structs t words = words
-as_read (store.Parameter parameter) structs t words = words
+as_read (store.Variable variable) structs t words = words
 as_read (store.Shared variable) structs t words = words
 as_read (store.Buffer buffer) structs t words = cleaned (marks_in structs t) words
 as_read (store.Input number) structs t words = cleaned (marks_in structs t) words

@@ -1,8 +1,9 @@
 -- What the steps of a statement or of a `for` header do: stores, interlocked forms and calls.
-use Rattle.std.specs.Prelude.{ℕ, ◌/◌, ◌==◌, Bool, if◌then◌else◌, List, [], ◌∷◌, map, slice_index, bit_and, bit_or, bit_xor, Option, Some, None}
-use Rattle.wg_words.specs.Words.{sum_of}
+use Rattle.std.specs.Prelude.{ℕ, ◌/◌, Bool, if◌then◌else◌, List, [], ◌∷◌, map, slice_index, Option, Some, None}
+use Rattle.wg_machine.specs.declared.memory.Atomic.{Atomic}
+use Rattle.wg_machine.specs.declared.memory.Atomic.TheVariants as atomic
+use Rattle.wg_machine.specs.Buffers.{exchanged}
 use Rattle.wg_state.specs.Turns.{Action, ◌>>=◌, ◌>>◌, pure, read, change, all}
-use Rattle.wg_tree.specs.declared.expr.Scalar.{Scalar}
 use Rattle.wg_tree.specs.declared.expr.Scalar.TheVariants as scalar
 use Rattle.wg_tree.specs.declared.expr.BinaryOperator.{BinaryOperator}
 use Rattle.wg_tree.specs.declared.stmt.StepOperator.{StepOperator}
@@ -25,7 +26,6 @@ use Rattle.wg_typed.specs.declared.typed_stmt.Destination.{Destination}
 use Rattle.wg_typed.specs.declared.typed_stmt.Destination.TheVariants as destination
 use Rattle.wg_typed.specs.Layout.{words_of}
 use Rattle.wg_typed.specs.Operators.{converted, combined_words, stepped_words}
-use Rattle.wg_typed.specs.Intrinsics.{least, greatest}
 use Rattle.wg_semantics.specs.Places.{Setting, fetched, written}
 use Rattle.wg_state.specs.WordLists.{zeros}
 use Rattle.wg_semantics.specs.Calls.{Seen, Callee, callee_at, value_of, called}
@@ -69,20 +69,17 @@ raw_stored setting buffer address value = do
 
 -- ---- interlocked forms
 
-abbrev pub signedness : Bool → Scalar
-signedness signed = if signed then scalar.Int else scalar.Uint
-
--- what a form leaves in place of the old word
-abbrev pub exchanged : InterlockedForm → Scalar → ℕ → ℕ → ℕ → ℕ
-exchanged form.Add s old compare value = sum_of 32 old value
-exchanged form.Min s old compare value = least s old value
-exchanged form.Max s old compare value = greatest s old value
-exchanged form.And s old compare value = bit_and old value
-exchanged form.Or s old compare value = bit_or old value
-exchanged form.Xor s old compare value = bit_xor old value
-exchanged form.Exchange s old compare value = value
-exchanged form.CompareExchange s old compare value = if old == compare then value else old
-exchanged form.CompareStore s old compare value = if old == compare then value else old
+-- what a form does to a word of the machine; `signed` where `Min` and `Max` are on `int`
+abbrev pub atomic_of : InterlockedForm → Bool → Atomic
+atomic_of form.Add signed = atomic.Add
+atomic_of form.Min signed = if signed then atomic.MinSigned else atomic.Min
+atomic_of form.Max signed = if signed then atomic.MaxSigned else atomic.Max
+atomic_of form.And signed = atomic.And
+atomic_of form.Or signed = atomic.Or
+atomic_of form.Xor signed = atomic.Xor
+atomic_of form.Exchange signed = atomic.Exchange
+atomic_of form.CompareExchange signed = atomic.CompareExchange
+atomic_of form.CompareStore signed = atomic.CompareExchange
 
 abbrev pub destination_of : Setting → List Callee → Destination → Action State Spot
 destination_of setting callees (destination.Scalar target) = (seen setting callees target).spot
@@ -111,7 +108,7 @@ interlocked setting callees i = do
   value ← word_of setting (seen setting callees i.value)
   back ← maybe_spot setting callees i.old
   old ← read (word_at p)
-  store_at p (exchanged i.form (signedness i.signed) old compare value ∷ [])
+  store_at p (exchanged (atomic_of i.form i.signed) old compare value ∷ [])
   store_at back (old ∷ [])
 
 -- ---- steps
@@ -133,7 +130,7 @@ steps_do setting callees steps = all (map (step_does setting callees) steps)
 
 -- ---- declarations
 
--- a local without a start value is zeros each time its declaration is run; own
+-- a variable without a start value is zeros each time its declaration is run; own
 abbrev pub start_value : Setting → List Callee → TypeTree → Option TypedExpr → Action State (List ℕ)
 start_value setting callees t None = pure (zeros (words_of setting.structs t))
 start_value setting callees t (Some e) = value_of setting.structs (seen setting callees e)
@@ -141,7 +138,7 @@ start_value setting callees t (Some e) = value_of setting.structs (seen setting 
 abbrev pub declared_as : Setting → List Callee → TypedDeclarator → Action State (Unit {0})
 declared_as setting callees d = do
   words ← start_value setting callees d.of d.value
-  store_at (spot.At (store.Local d.local) 0) words
+  store_at (spot.At (store.Variable d.variable) 0) words
 
 abbrev pub all_declared : Setting → List Callee → List TypedDeclarator → Action State (Unit {0})
 all_declared setting callees declarators = all (map (declared_as setting callees) declarators)

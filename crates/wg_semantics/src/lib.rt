@@ -5,4 +5,4 @@ mod law;
 mod state;
 
 pub use law::callees_are_functions;
-pub use state::{Body, Flow, Frame, Lane, Passed, Spot, State, Store};
+pub use state::{Body, Flow, Lane, Passed, Spot, State, Store};

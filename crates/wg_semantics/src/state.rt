@@ -1,32 +1,24 @@
 use wg_state::World;
 use wg_words::{Word, WordLists, Words};
 
-/// The values of a function's parameters and locals, each by its words.
-#[derive(Debug, Drop)]
-pub struct Frame {
-    pub parameters: WordLists,
-    pub locals: WordLists,
-}
-
-/// What a lane reads and writes.
+/// What a lane reads and writes: the words of each variable of the function that it runs, and what the lanes share.
 #[derive(Debug, Drop)]
 pub struct State {
-    pub frame: Frame,
+    pub variables: WordLists,
     pub world: World,
 }
 
-/// A lane between two phases; one that has returned runs no more.
+/// A lane between two phases, with the words of its entry function's variables; one that has returned runs no more.
 #[derive(Debug, Drop)]
 pub struct Lane {
-    pub frame: Frame,
+    pub variables: WordLists,
     pub returned: bool,
 }
 
 /// What holds words: a variable, a buffer, an input record, or a record of a grant, each by its number.
 #[derive(Clone, Copy, Debug, PartialEq, Eq)]
 pub enum Store {
-    Local { local: u32 },
-    Parameter { parameter: u32 },
+    Variable { variable: u32 },
     Shared { variable: u32 },
     Buffer { buffer: u32 },
     Input { record: u32 },

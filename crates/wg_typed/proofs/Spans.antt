@@ -26,8 +26,7 @@ option_count (Some n) = 1 + n
 
 abbrev pub kind_span : List ℕ → TypedKind-F ℕ ℕ ℕ ℕ → ℕ
 kind_span earlier (TypedKind-F.Literal words) = 1
-kind_span earlier (TypedKind-F.Local local) = 1
-kind_span earlier (TypedKind-F.Parameter parameter) = 1
+kind_span earlier (TypedKind-F.Variable variable) = 1
 kind_span earlier (TypedKind-F.Shared variable) = 1
 kind_span earlier (TypedKind-F.Element buffer index) = 1 + index
 kind_span earlier (TypedKind-F.Load buffer address) = 1 + address

@@ -1,4 +1,5 @@
 pub mod Constants
+pub mod Directions
 pub mod Earlier
 pub mod Intrinsics
 pub mod Layout

@@ -1,7 +1,7 @@
 -- Which expressions of an entry function have one value on all lanes of a launch, so far as this language knows it (own; HLSL asks for
 -- uniform flow at a barrier with group sync and at the calls of outputs).
 use Rattle.std.specs.Prelude.{Bool, true, false, ◌&&◌, ◌||◌, List, [], ◌∷◌, Option, Some, None, slice_get}
-use Rattle.wg_typed.specs.declared.typed.TypedLocal.{TypedLocal}
+use Rattle.wg_typed.specs.declared.typed.TypedVariable.{TypedVariable}
 use Rattle.wg_typed.specs.declared.typed.TypedParameter.{TypedParameter}
 use Rattle.wg_typed.specs.declared.typed.TypedParameterType.{TypedParameterType}
 use Rattle.wg_typed.specs.declared.typed.TypedParameterType.TheVariants as parameter
@@ -16,10 +16,9 @@ use Rattle.wg_typed.specs.declared.typed_expr.TypedLink.{TypedLink}
 use Rattle.wg_typed.specs.declared.typed_expr.Access.TheFolds.{fold-TypedExpr, fold-Access, fold-TypedLink}
 use Rattle.wg_typed.specs.declared.typed_expr.Access.TheOpen.{TypedExpr-F, TypedKind-F, Access-F, TypedLink-F}
 
--- what is known of the function: its locals and parameters with their marks, and whether its input is a dispatch or a group input that is only read
+-- what is known of the function: its variables with their marks, and whether its input is a dispatch or a group input that is only read
 pub record UniformSetting : Type 0 where
-  pub locals : List TypedLocal
-  pub parameters : List TypedParameter
+  pub variables : List TypedVariable
   pub reads_input : Bool
 
 -- whether an expression is uniform, and whether a field of it is: of a record of the input only a field is
@@ -56,13 +55,9 @@ abbrev pub index_uniform : Option Spread → Bool
 index_uniform None = true
 index_uniform (Some s) = s.whole
 
-abbrev pub is_marked_local : Option TypedLocal → Bool
-is_marked_local None = false
-is_marked_local (Some l) = l.uniform
-
-abbrev pub is_marked_parameter : Option TypedParameter → Bool
-is_marked_parameter None = false
-is_marked_parameter (Some p) = p.uniform
+abbrev pub is_marked : Option TypedVariable → Bool
+is_marked None = false
+is_marked (Some v) = v.uniform
 
 abbrev pub access_taken : Access-F Taken Spread Spread Spread → Taken
 access_taken (Access-F.Field field of) = a_field
@@ -72,8 +67,7 @@ access_taken (Access-F.Index index of) = an_element
 -- Reads of groupshared words, of buffers and of writable inputs and the records of handles are not uniform, nor are calls of functions.
 abbrev pub kind_spread : UniformSetting → TypedKind-F Taken Spread Spread Spread → Spread
 kind_spread u (TypedKind-F.Literal words) = evenly true
-kind_spread u (TypedKind-F.Local local) = evenly (is_marked_local (slice_get u.locals local))
-kind_spread u (TypedKind-F.Parameter parameter) = evenly (is_marked_parameter (slice_get u.parameters parameter))
+kind_spread u (TypedKind-F.Variable variable) = evenly (is_marked (slice_get u.variables variable))
 kind_spread u (TypedKind-F.Shared variable) = evenly false
 kind_spread u (TypedKind-F.Element buffer index) = evenly false
 kind_spread u (TypedKind-F.Load buffer address) = evenly false
@@ -149,4 +143,4 @@ any_read (p ∷ rest) = is_read_type p.of || any_read rest
 
 -- the marks that stand in a typed function
 abbrev pub setting_in : TypedFunction → UniformSetting
-setting_in f = record { locals = f.locals; parameters = f.parameters; reads_input = any_read f.parameters }
+setting_in f = record { variables = f.variables; reads_input = any_read f.parameters }

@@ -38,8 +38,7 @@ called_weight earlier function = unwrap_or (slice_get earlier function) 0
 
 abbrev pub kind_weight : List ℕ → TypedKind-F ℕ ℕ ℕ ℕ → ℕ
 kind_weight earlier (TypedKind-F.Literal words) = 1
-kind_weight earlier (TypedKind-F.Local local) = 1
-kind_weight earlier (TypedKind-F.Parameter parameter) = 1
+kind_weight earlier (TypedKind-F.Variable variable) = 1
 kind_weight earlier (TypedKind-F.Shared variable) = 1
 kind_weight earlier (TypedKind-F.Element buffer index) = 1 + index
 kind_weight earlier (TypedKind-F.Load buffer address) = 1 + address

@@ -23,7 +23,7 @@ pub use numbers_32::{combine_32, prefix_32};
 pub use numbers_64::{combine_64, prefix_64};
 pub use typed::{
     SystemValue, Typed, TypedBuffer, TypedBufferType, TypedEntry, TypedField, TypedFunction,
-    TypedHandle, TypedLocal, TypedParameter, TypedParameterType, TypedShared, TypedStruct,
+    TypedHandle, TypedParameter, TypedParameterType, TypedShared, TypedStruct, TypedVariable,
 };
 pub use typed_expr::{Access, Intrinsic, TypedExpr, TypedKind, TypedLink};
 pub use typed_stmt::{

@@ -61,8 +61,6 @@ pub enum SystemValue {
     GroupIndex,
 }
 
-/// A parameter. `system` is the system value that an entry function's parameter takes; `uniform` where that is `SV_GroupID`
-/// and the body never changes the parameter, so that all lanes of a launch have one value in it.
 #[derive(Drop)]
 pub struct TypedParameter {
     pub attributes: Items<TypedAttribute>,
@@ -70,14 +68,15 @@ pub struct TypedParameter {
     pub of: TypedParameterType,
     pub name: Named,
     pub semantic: Option<Named>,
-    pub system: Option<SystemValue>,
-    pub uniform: bool,
 }
 
-/// A local variable; `uniform` where it is `const` and its start value is one on all lanes of a launch.
+/// A variable of a function. `system` is the system value that a parameter of an entry function takes. `uniform` where all
+/// lanes of a launch have one value in it: a local that is `const` with a start value that is uniform, or a parameter that
+/// takes `SV_GroupID` and that the body never changes.
 #[derive(Clone, Copy, Debug, PartialEq, Eq)]
-pub struct TypedLocal {
+pub struct TypedVariable {
     pub of: TypeTree,
+    pub system: Option<SystemValue>,
     pub uniform: bool,
 }
 
@@ -98,8 +97,9 @@ pub struct TypedHandle {
     pub output: u32,
 }
 
-/// A function, with its locals and its handles in the order of their declarations. It has no result type where it is
-/// `void`, and `entry` where it is a node.
+/// A function. Its variables are its parameters that are no objects, in their order, and then its locals in the order of
+/// their declarations; its handles are in that order too. It has no result type where it is `void`, and `entry` where it is
+/// a node.
 #[derive(Drop)]
 pub struct TypedFunction {
     pub entry: Option<TypedEntry>,
@@ -107,7 +107,7 @@ pub struct TypedFunction {
     pub result: Option<TypeTree>,
     pub name: Named,
     pub parameters: Items<TypedParameter>,
-    pub locals: Items<TypedLocal>,
+    pub variables: Items<TypedVariable>,
     pub handles: Items<TypedHandle>,
     pub body: Items<TypedStmt>,
 }

@@ -39,13 +39,9 @@ pub enum TypedKind {
     Literal {
         words: Words,
     },
-    /// A local of the function, by the order of declarations.
-    Local {
-        local: u32,
-    },
-    /// A parameter of the function that is no object.
-    Parameter {
-        parameter: u32,
+    /// A variable of the function: a parameter that is no object, or a local.
+    Variable {
+        variable: u32,
     },
     /// A groupshared variable.
     Shared {

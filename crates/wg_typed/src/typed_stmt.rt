@@ -29,10 +29,10 @@ pub struct TypedAttribute {
     pub arguments: Items<TypedArgument>,
 }
 
-/// One name of a declaration.
+/// One name of a declaration: the number of its variable.
 #[derive(Drop)]
 pub struct TypedDeclarator {
-    pub local: u32,
+    pub variable: u32,
     pub of: TypeTree,
     pub value: Option<TypedExpr>,
 }

@@ -44,8 +44,7 @@ fn add_expr(functions: &Items<TypedFunction>, before: u32, expr: &TypedExpr, so_
 {
     match &expr.kind {
         TypedKind::Literal { .. }
-        | TypedKind::Local { .. }
-        | TypedKind::Parameter { .. }
+        | TypedKind::Variable { .. }
         | TypedKind::Shared { .. }
         | TypedKind::Count
         | TypedKind::Finished

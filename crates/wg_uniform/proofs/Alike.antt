@@ -26,7 +26,7 @@ use Rattle.wg_typed.specs.declared.typed_expr.Access.TheOpen.{TypedExpr-F, Typed
 use Rattle.wg_typed.specs.Layout.{Range, words_of, field_range, put}
 use Rattle.wg_typed.specs.Operators.{converted, combined_words, prefixed_words}
 use Rattle.wg_typed.specs.Intrinsics.{called_words}
-use Rattle.wg_typed.specs.Uniform.{UniformSetting, Spread, Taken, a_field, components, an_element, evenly, taken, all_taken, all_uniform, is_marked_local, is_marked_parameter, access_taken, kind_spread, expr_spread, link_spread, spread_of, form_taken, operand_spread, is_uniform}
+use Rattle.wg_typed.specs.Uniform.{UniformSetting, Spread, Taken, a_field, components, an_element, evenly, taken, all_taken, all_uniform, is_marked, access_taken, kind_spread, expr_spread, link_spread, spread_of, form_taken, operand_spread, is_uniform}
 use Rattle.wg_uniform.specs.OneValue.{on_lane, words_on, AreAlike, HasOneValue}
 
 -- whether the whole or its fields are uniform
@@ -254,13 +254,13 @@ module _ (u : UniformSetting) (setting : Setting) (lane other : ℕ) (callees ot
       subst (λ of. Both Shared (valued (chained (map f (map p cs)) x.of words)) (valued (chained (map g (map p cs)) of words))) h.of (both_valued (chained (map f (map p cs)) x.of words) (chained (map g (map p cs)) x.of words) (both_chained p w f g all cs x.of words k.1)))
 
   choice_good : (v w z : Spread) (x y k l m n : Seen) → ExprGood v x y → ExprGood w k l → ExprGood z m n → known (evenly (v.whole && w.whole && z.whole)) ≡ true
-      → Both Shared (value_of setting.structs x >>= (λ c. valued (when (slice_index c 0) (value_of setting.structs k) (value_of setting.structs m)))) (value_of setting.structs y >>= (λ c. valued (when (slice_index c 0) (value_of setting.structs l) (value_of setting.structs n))))
+      → Both Shared (word_of a x >>= (λ c. valued (when c (value_of setting.structs k) (value_of setting.structs m)))) (word_of b y >>= (λ c. valued (when c (value_of setting.structs l) (value_of setting.structs n))))
   choice_good v w z x y k l m n f g h e =
       let three = and_parts (v.whole && w.whole) z.whole (even_whole (v.whole && w.whole && z.whole) e) in
       let two = and_parts v.whole w.whole three.0 in
-      both_then (value_of setting.structs x) (value_of setting.structs y) _ _ (both_words v x y f (whole_known v two.0)) (λ c i.
-      both_valued (when (slice_index c 0) (value_of setting.structs k) (value_of setting.structs m)) (when (slice_index c 0) (value_of setting.structs l) (value_of setting.structs n))
-      (both_when (slice_index c 0) (value_of setting.structs k) (value_of setting.structs l) (value_of setting.structs m) (value_of setting.structs n) (both_words w k l g (whole_known w two.1)) (both_words z m n h (whole_known z three.1))))
+      both_then (word_of a x) (word_of b y) _ _ (both_word v x y f (whole_known v two.0)) (λ c i.
+      both_valued (when c (value_of setting.structs k) (value_of setting.structs m)) (when c (value_of setting.structs l) (value_of setting.structs n))
+      (both_when c (value_of setting.structs k) (value_of setting.structs l) (value_of setting.structs m) (value_of setting.structs n) (both_words w k l g (whole_known w two.1)) (both_words z m n h (whole_known z three.1))))
 
   link_any : (operator : BinaryOperator) (before : Option TypeTree) (of : TypeTree) (w : Spread) (x y : Seen) → ExprGood w x y → LinkGood w (record { of = of; next = linked a operator before x }) (record { of = of; next = linked b operator before y })
   link_any operator before of w x y g = record { of = refl; both = λ e t words. linked_good operator before t w x y words g e }
@@ -293,8 +293,7 @@ module _ (u : UniformSetting) (setting : Setting) (lane other : ℕ) (callees ot
 
     kind_level : (y : TypedKind-F BA BK BE BL) → KindLevel y
     kind_level (TypedKind-F.Literal words) t e = both_value words
-    kind_level (TypedKind-F.Local local) t e = both_pure (spot.At (store.Local local) 0) (alike.locals local (even_whole (is_marked_local (slice_get u.locals local)) e))
-    kind_level (TypedKind-F.Parameter parameter) t e = both_pure (spot.At (store.Parameter parameter) 0) (alike.parameters parameter (even_whole (is_marked_parameter (slice_get u.parameters parameter)) e))
+    kind_level (TypedKind-F.Variable variable) t e = both_pure (spot.At (store.Variable variable) 0) (alike.variables variable (even_whole (is_marked (slice_get u.variables variable)) e))
     kind_level (TypedKind-F.Shared variable) t e = never e
     kind_level (TypedKind-F.Element buffer index) t e = never e
     kind_level (TypedKind-F.Load buffer address) t e = never e

@@ -1,5 +1,5 @@
 -- Lanes of a launch begin alike, and stay so where a local is declared with a uniform start value.
-use Rattle.std.proofs.Common.{◌≡◌, ℕ, zero, suc, Bool, true, false, List, [], ◌∷◌, map, take, Some, refl, sym, ap, ◌∙◌, subst, ⊎_elim}
+use Rattle.std.proofs.Common.{◌≡◌, ℕ, zero, suc, Bool, true, false, List, [], ◌∷◌, map, Option, Some, None, refl, sym, ap, ◌∙◌, subst, ⊎_elim}
 use Rattle.std.proofs.lemmas.Bool.{false≢true, cases_eq, or_cases}
 use Rattle.std.proofs.lemmas.List.{length-set}
 use Rattle.std.specs.Prelude.{slice_get, slice_set}
@@ -12,14 +12,15 @@ use Rattle.wg_semantics.specs.declared.state.Store.TheVariants as store
 use Rattle.wg_semantics.specs.declared.state.Spot.{Spot}
 use Rattle.wg_semantics.specs.declared.state.Spot.TheVariants as spot
 use Rattle.wg_semantics.specs.Places.{Setting, over_written, written}
-use Rattle.wg_semantics.specs.Calls.{Seen, Callee, parameter_words, value_of}
+use Rattle.wg_semantics.specs.Calls.{Seen, Callee, value_of}
 use Rattle.wg_semantics.specs.ExprMeaning.{Follows, Linked, access_step, kind_step, expr_step, link_step, seen, kind_does}
 use Rattle.wg_semantics.specs.StepMeaning.{declared_as, start_value, store_at}
-use Rattle.wg_semantics.specs.LaunchMeaning.{system_words, entry_value, first_frame}
+use Rattle.wg_semantics.specs.LaunchMeaning.{begins_with, first_value, first_values}
 use Rattle.wg_typed.specs.declared.types.TypeTree.{TypeTree}
 use Rattle.wg_typed.specs.declared.typed.SystemValue.TheVariants as system
+use Rattle.wg_typed.specs.declared.typed.SystemValue.{SystemValue}
 use Rattle.wg_typed.specs.declared.typed.TypedFunction.{TypedFunction}
-use Rattle.wg_typed.specs.declared.typed.TypedParameter.{TypedParameter}
+use Rattle.wg_typed.specs.declared.typed.TypedVariable.{TypedVariable}
 use Rattle.wg_typed.specs.declared.typed.TypedStruct.{TypedStruct}
 use Rattle.wg_typed.specs.declared.typed_expr.TypedExpr.{TypedExpr}
 use Rattle.wg_typed.specs.declared.typed_expr.TypedKind.{TypedKind}
@@ -27,23 +28,26 @@ use Rattle.wg_typed.specs.declared.typed_expr.TypedKind.TheVariants as kind
 use Rattle.wg_typed.specs.declared.typed_expr.Access.TheFolds.{fold_out-TypedExpr, fold-roll-TypedKind}
 use Rattle.wg_typed.specs.declared.typed_expr.Access.TheOpen.{TypedKind-F}
 use Rattle.wg_typed.specs.declared.typed_stmt.TypedDeclarator.{TypedDeclarator}
-use Rattle.wg_typed.specs.Uniform.{UniformSetting, is_marked_local, is_marked_parameter, is_uniform, is_finished, is_uniform_start, setting_in}
+use Rattle.wg_typed.specs.Layout.{words_of}
+use Rattle.wg_typed.specs.Uniform.{UniformSetting, is_marked, is_uniform, is_finished, is_uniform_start, setting_in}
 use Rattle.wg_words.specs.Truth.{truth}
 use Rattle.wg_uniform.specs.OneValue.{on_lane, words_on, IsStill, AreAlike, MarksGroupIds, StayAlike, is_read_alike}
 use Rattle.wg_uniform.proofs.Alike.{one_value}
 
 module _ (structs : List TypedStruct) (group threads : List ℕ) (lane other : ℕ) where
-  same_value : (p : TypedParameter) → p.system ≡ Some system.GroupId → entry_value structs group threads lane p ≡ entry_value structs group threads other p
-  same_value p e = ap (λ o. take (parameter_words structs p.of) (system_words group threads lane o)) e ∙ ap (λ o. take (parameter_words structs p.of) (system_words group threads other o)) (sym e)
+  same_begin : (words : ℕ) (system_value : Option SystemValue) → ((value : SystemValue) → system_value ≡ Some value → value ≡ system.GroupId) → begins_with group threads lane words system_value ≡ begins_with group threads other words system_value
+  same_begin words None ids = refl
+  same_begin words (Some value) ids =
+      ap (λ v. begins_with group threads lane words (Some v)) (ids value refl) ∙ ap (λ v. begins_with group threads other words (Some v)) (sym (ids value refl))
 
-  same_values : (ps : List TypedParameter) (n : ℕ) → MarksGroupIds ps → is_marked_parameter (slice_get ps n) ≡ true → list_at (map (entry_value structs group threads lane) ps) n ≡ list_at (map (entry_value structs group threads other) ps) n
+  same_values : (vs : List TypedVariable) (n : ℕ) → MarksGroupIds vs → is_marked (slice_get vs n) ≡ true → list_at (map (first_value structs group threads lane) vs) n ≡ list_at (map (first_value structs group threads other) vs) n
   same_values [] n ids h = refl
-  same_values (p ∷ ps) zero ids h = same_value p (ids 0 p refl h)
-  same_values (p ∷ ps) (suc n) ids h = same_values ps n (λ k. ids (suc k)) h
+  same_values (v ∷ vs) zero ids h = same_begin (words_of structs v.of) v.system (λ value e. ids 0 v value refl h e)
+  same_values (v ∷ vs) (suc n) ids h = same_values vs n (λ k. ids (suc k)) h
 
-  pub begin_alike : (f : TypedFunction) (w : World) → MarksGroupIds f.parameters
-      → AreAlike (setting_in f) (record { frame = first_frame structs f group threads lane; world = w }) (record { frame = first_frame structs f group threads other; world = w })
-  begin_alike f w ids = record { locals = λ n h. refl; parameters = λ n h. same_values f.parameters n ids h; count = refl; inputs = λ h. refl }
+  pub begin_alike : (f : TypedFunction) (w : World) → MarksGroupIds f.variables
+      → AreAlike (setting_in f) (record { variables = first_values structs f group threads lane; world = w }) (record { variables = first_values structs f group threads other; world = w })
+  begin_alike f w ids = record { variables = λ n h. same_values f.variables n ids h; count = refl; inputs = λ h. refl }
 
 nothing_over : (from : ℕ) (words : List ℕ) → over_written [] from words ≡ []
 nothing_over from [] = refl
@@ -70,22 +74,21 @@ same_after xs ys n m words same = ⊎_elim (λ e. subst (λ k. list_at xs k ≡ 
     there e = set_there xs n words ∙ ap (λ old. over_written old 0 words) e ∙ sym (set_there ys n words)
 
 declares : (setting : Setting) (callees : List Callee) (d : TypedDeclarator) (e : TypedExpr) (s : State) (words : List ℕ) → d.value ≡ Some e → IsStill (words_on setting callees e) s words
-    → (t : ℕ) → declared_as setting callees d s t ≡ Done tt (written (spot.At (store.Local d.local) 0) words s) t
+    → (t : ℕ) → declared_as setting callees d s t ≡ Done tt (written (spot.At (store.Variable d.variable) 0) words s) t
 declares setting callees d e s words starts still t =
-    ap (λ o. and_then (start_value setting callees d.of o s t) (store_at (spot.At (store.Local d.local) 0))) starts
-    ∙ ap (λ x. and_then x (store_at (spot.At (store.Local d.local) 0))) (still t)
+    ap (λ o. and_then (start_value setting callees d.of o s t) (store_at (spot.At (store.Variable d.variable) 0))) starts
+    ∙ ap (λ x. and_then x (store_at (spot.At (store.Variable d.variable) 0))) (still t)
 
 stay_alike : (u : UniformSetting) (setting : Setting) (lane other : ℕ) (callees others : List Callee) (d : TypedDeclarator) (e : TypedExpr) (s r : State) (words : List ℕ) → d.value ≡ Some e
     → IsStill (words_on (on_lane setting lane) callees e) s words → IsStill (words_on (on_lane setting other) others e) r words → AreAlike u s r
     → StayAlike u (declared_as (on_lane setting lane) callees d) (declared_as (on_lane setting other) others d) s r
 stay_alike u setting lane other callees others d e s r words starts here there alike = record {
-  after = written (spot.At (store.Local d.local) 0) words s;
-  other_after = written (spot.At (store.Local d.local) 0) words r;
+  after = written (spot.At (store.Variable d.variable) 0) words s;
+  other_after = written (spot.At (store.Variable d.variable) 0) words r;
   runs = declares (on_lane setting lane) callees d e s words starts here;
   other_runs = declares (on_lane setting other) others d e r words starts there;
   alike = record {
-    locals = λ n h. same_after s.frame.locals r.frame.locals d.local n words (alike.locals n h);
-    parameters = λ n h. alike.parameters n h;
+    variables = λ n h. same_after s.variables r.variables d.variable n words (alike.variables n h);
     count = alike.count;
     inputs = λ h. alike.inputs h;
   };
@@ -119,24 +122,16 @@ apart : (f : ℕ → Bool) (m n : ℕ) → f m ≡ true → f n ≡ false → m 
 apart f m n yes_m no_n e = false≢true (sym no_n ∙ ap f (sym e) ∙ yes_m)
 
 pub written_alike : (u : UniformSetting) (p : Store) (from : ℕ) (values : List ℕ) (s r : State) → is_read_alike u p ≡ false → AreAlike u s r → AreAlike u (written (spot.At p from) values s) r
-written_alike u (store.Local local) from values s r unread alike = record {
-  locals = λ n h. elsewhere s.frame.locals local n _ (apart (λ k. is_marked_local (slice_get u.locals k)) n local h unread) ∙ alike.locals n h;
-  parameters = λ n h. alike.parameters n h;
+written_alike u (store.Variable variable) from values s r unread alike = record {
+  variables = λ n h. elsewhere s.variables variable n _ (apart (λ k. is_marked (slice_get u.variables k)) n variable h unread) ∙ alike.variables n h;
   count = alike.count;
   inputs = λ h. alike.inputs h;
 }
-written_alike u (store.Parameter parameter) from values s r unread alike = record {
-  locals = λ n h. alike.locals n h;
-  parameters = λ n h. elsewhere s.frame.parameters parameter n _ (apart (λ k. is_marked_parameter (slice_get u.parameters k)) n parameter h unread) ∙ alike.parameters n h;
-  count = alike.count;
-  inputs = λ h. alike.inputs h;
-}
-written_alike u (store.Shared variable) from values s r unread alike = record { locals = λ n h. alike.locals n h; parameters = λ n h. alike.parameters n h; count = alike.count; inputs = λ h. alike.inputs h }
-written_alike u (store.Buffer buffer) from values s r unread alike = record { locals = λ n h. alike.locals n h; parameters = λ n h. alike.parameters n h; count = alike.count; inputs = λ h. alike.inputs h }
+written_alike u (store.Shared variable) from values s r unread alike = record { variables = λ n h. alike.variables n h; count = alike.count; inputs = λ h. alike.inputs h }
+written_alike u (store.Buffer buffer) from values s r unread alike = record { variables = λ n h. alike.variables n h; count = alike.count; inputs = λ h. alike.inputs h }
 written_alike u (store.Input number) from values s r unread alike = record {
-  locals = λ n h. alike.locals n h;
-  parameters = λ n h. alike.parameters n h;
+  variables = λ n h. alike.variables n h;
   count = length-set s.world.inputs number _ ∙ alike.count;
   inputs = λ h. absurd (false≢true (sym unread ∙ h));
 }
-written_alike u (store.Granted grant item) from values s r unread alike = record { locals = λ n h. alike.locals n h; parameters = λ n h. alike.parameters n h; count = alike.count; inputs = λ h. alike.inputs h }
+written_alike u (store.Granted grant item) from values s r unread alike = record { variables = λ n h. alike.variables n h; count = alike.count; inputs = λ h. alike.inputs h }

@@ -9,9 +9,10 @@ use Rattle.wg_semantics.specs.Places.{Setting}
 use Rattle.wg_semantics.specs.Calls.{Callee, value_of}
 use Rattle.wg_semantics.specs.ExprMeaning.{seen}
 use Rattle.wg_typed.specs.declared.typed.SystemValue.TheVariants as system
-use Rattle.wg_typed.specs.declared.typed.TypedParameter.{TypedParameter}
+use Rattle.wg_typed.specs.declared.typed.SystemValue.{SystemValue}
+use Rattle.wg_typed.specs.declared.typed.TypedVariable.{TypedVariable}
 use Rattle.wg_typed.specs.declared.typed_expr.TypedExpr.{TypedExpr}
-use Rattle.wg_typed.specs.Uniform.{UniformSetting, is_marked_local, is_marked_parameter}
+use Rattle.wg_typed.specs.Uniform.{UniformSetting, is_marked}
 
 -- the words of an expression, by the settings of its lane and by what the functions do there
 abbrev pub words_on : Setting → List Callee → TypedExpr → Action State (List ℕ)
@@ -21,11 +22,10 @@ words_on setting callees e = value_of setting.structs (seen setting callees e)
 abbrev pub on_lane : Setting → ℕ → Setting
 on_lane setting lane = record setting { lane = lane }
 
--- Two lanes, each when it comes to an expression, have come there through equal choices: what stands in marked locals and parameters is the
--- same, so is the number of input records, and so are these where they are only read.
+-- Two lanes, each when it comes to an expression, have come there through equal choices: what stands in marked variables is the same, so is
+-- the number of input records, and so are these where they are only read.
 pub record AreAlike (u : UniformSetting) (s other : State) : Type 0 where
-  pub locals : (number : ℕ) → is_marked_local (slice_get u.locals number) ≡ true → list_at s.frame.locals number ≡ list_at other.frame.locals number
-  pub parameters : (number : ℕ) → is_marked_parameter (slice_get u.parameters number) ≡ true → list_at s.frame.parameters number ≡ list_at other.frame.parameters number
+  pub variables : (number : ℕ) → is_marked (slice_get u.variables number) ≡ true → list_at s.variables number ≡ list_at other.variables number
   pub count : length s.world.inputs ≡ length other.world.inputs
   pub inputs : u.reads_input ≡ true → s.world.inputs ≡ other.world.inputs
 
@@ -40,9 +40,9 @@ HasOneValue u e = (setting : Setting) (lane other : ℕ) (callees others : List 
 
 -- ---- how lanes come to be alike
 
--- no parameter is marked but those with `SV_GroupID`
-abbrev pub MarksGroupIds : List TypedParameter → Type 0
-MarksGroupIds parameters = (number : ℕ) (p : TypedParameter) → slice_get parameters number ≡ Some p → p.uniform ≡ true → p.system ≡ Some system.GroupId
+-- of the variables with a system value none is marked but those with `SV_GroupID`
+abbrev pub MarksGroupIds : List TypedVariable → Type 0
+MarksGroupIds variables = (number : ℕ) (v : TypedVariable) (value : SystemValue) → slice_get variables number ≡ Some v → v.uniform ≡ true → v.system ≡ Some value → value ≡ system.GroupId
 
 -- a step that ends on both lanes, and leaves them alike
 pub record StayAlike (u : UniformSetting) (m n : Action State (Unit {0})) (s r : State) : Type 0 where
@@ -52,10 +52,9 @@ pub record StayAlike (u : UniformSetting) (m n : Action State (Unit {0})) (s r :
   pub other_runs : (turns : ℕ) → n r turns ≡ Done tt other_after turns
   pub alike : AreAlike u after other_after
 
--- whether uniform expressions may read a store: a marked local or parameter, or an input that is only read
+-- whether uniform expressions may read a store: a marked variable, or an input that is only read
 abbrev pub is_read_alike : UniformSetting → Store → Bool
-is_read_alike u (store.Local local) = is_marked_local (slice_get u.locals local)
-is_read_alike u (store.Parameter parameter) = is_marked_parameter (slice_get u.parameters parameter)
+is_read_alike u (store.Variable variable) = is_marked (slice_get u.variables variable)
 is_read_alike u (store.Shared variable) = false
 is_read_alike u (store.Buffer buffer) = false
 is_read_alike u (store.Input number) = u.reads_input

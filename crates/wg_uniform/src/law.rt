@@ -5,7 +5,7 @@ ghost use Rattle.wg_semantics.specs.declared.state.Store.{Store};
 ghost use Rattle.wg_semantics.specs.declared.state.Spot.TheVariants.{At};
 ghost use Rattle.wg_semantics.specs.Places.{Setting, written};
 ghost use Rattle.wg_semantics.specs.Calls.{Callee};
-ghost use Rattle.wg_semantics.specs.LaunchMeaning.{first_frame};
+ghost use Rattle.wg_semantics.specs.LaunchMeaning.{first_values};
 ghost use Rattle.wg_semantics.specs.StepMeaning.{declared_as};
 ghost use Rattle.wg_typed.specs.declared.typed.TypedFunction.{TypedFunction};
 ghost use Rattle.wg_typed.specs.declared.typed.TypedStruct.{TypedStruct};
@@ -14,10 +14,10 @@ ghost use Rattle.wg_typed.specs.declared.typed_stmt.TypedDeclarator.{TypedDeclar
 ghost use Rattle.wg_typed.specs.Uniform.{UniformSetting, is_uniform_start, setting_in};
 ghost use Rattle.wg_uniform.specs.OneValue.{on_lane, AreAlike, MarksGroupIds, StayAlike, is_read_alike};
 
-/// The lanes of a launch are alike as they begin, where no parameter is marked but those with `SV_GroupID`.
+/// The lanes of a launch are alike as they begin, where of the system values none but `SV_GroupID` is marked.
 pub fn lanes_begin_alike()
-    ensures begin { (structs : List TypedStruct) (f : TypedFunction) (group threads : List ℕ) (lane other : ℕ) (w : World) → MarksGroupIds f.parameters
-        → AreAlike (setting_in f) (record { frame = first_frame structs f group threads lane; world = w }) (record { frame = first_frame structs f group threads other; world = w }) }
+    ensures begin { (structs : List TypedStruct) (f : TypedFunction) (group threads : List ℕ) (lane other : ℕ) (w : World) → MarksGroupIds f.variables
+        → AreAlike (setting_in f) (record { variables = first_values structs f group threads lane; world = w }) (record { variables = first_values structs f group threads other; world = w }) }
 {}
 
 /// Lanes that are alike stay so where each declares a local with a start value that is uniform, or that says whether the

@@ -4,13 +4,12 @@ ghost use Rattle.wg_typed.specs.Uniform.{is_read_type, any_read};
 use sqlite_items::Items;
 use std::marker::Model;
 use wg_tree::ObjectWord;
-use wg_typed::{TypedFunction, TypedLocal, TypedParameter, TypedParameterType};
+use wg_typed::{TypedFunction, TypedParameter, TypedParameterType, TypedVariable};
 
 /// The marks of an entry function, as far as they are known.
 #[derive(Drop)]
 pub struct Setting<'a> {
-    locals: &'a Items<TypedLocal>,
-    parameters: &'a Items<TypedParameter>,
+    variables: &'a Items<TypedVariable>,
     reads_input: bool,
 }
 
@@ -19,25 +18,19 @@ impl<'a> Model for Setting<'a> {
 
     ghost Value = { UniformSetting };
 
-    ghost view = { λ s. record { locals = s.locals.now; parameters = s.parameters.now; reads_input = s.reads_input } };
+    ghost view = { λ s. record { variables = s.variables.now; reads_input = s.reads_input } };
 }
 
 impl<'a> Setting<'a> {
     ghost use Rattle.std.specs.Prelude.{◌≡◌, slice_get};
-    ghost use Rattle.wg_typed.specs.Uniform.{setting_in, is_marked_local, is_marked_parameter};
+    ghost use Rattle.wg_typed.specs.Uniform.{setting_in, is_marked};
 
-    /// The marks of these locals and parameters; `reads_input` where the input is a dispatch or a group input that is only
-    /// read.
-    pub fn new(
-        locals: &'a Items<TypedLocal>,
-        parameters: &'a Items<TypedParameter>,
-        reads_input: bool,
-    ) -> Setting<'a>
-        ensures { result ≡ record { locals = locals.now; parameters = parameters.now; reads_input = reads_input } }
+    /// The marks of these variables; `reads_input` where the input is a dispatch or a group input that is only read.
+    pub fn new(variables: &'a Items<TypedVariable>, reads_input: bool) -> Setting<'a>
+        ensures { result ≡ record { variables = variables.now; reads_input = reads_input } }
     {
         Setting {
-            locals,
-            parameters,
+            variables,
             reads_input,
         }
     }
@@ -47,8 +40,7 @@ impl<'a> Setting<'a> {
         ensures { result ≡ setting_in entry.now }
     {
         Setting {
-            locals: &entry.locals,
-            parameters: &entry.parameters,
+            variables: &entry.variables,
             reads_input: reads_input(&entry.parameters),
         }
     }
@@ -59,20 +51,11 @@ impl<'a> Setting<'a> {
         self.reads_input
     }
 
-    pub(crate) fn local(&self, number: u32) -> bool
-        ensures { result ≡ is_marked_local (slice_get self.now.locals number) }
+    pub(crate) fn marks(&self, number: u32) -> bool
+        ensures { result ≡ is_marked (slice_get self.now.variables number) }
     {
-        match self.locals.get(number as usize) {
-            Some(local) => local.uniform,
-            None => false,
-        }
-    }
-
-    pub(crate) fn parameter(&self, number: u32) -> bool
-        ensures { result ≡ is_marked_parameter (slice_get self.now.parameters number) }
-    {
-        match self.parameters.get(number as usize) {
-            Some(parameter) => parameter.uniform,
+        match self.variables.get(number as usize) {
+            Some(variable) => variable.uniform,
             None => false,
         }
     }

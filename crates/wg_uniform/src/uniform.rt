@@ -54,8 +54,7 @@ fn spread(setting: &Setting<'_>, expr: &TypedExpr) -> Found
         | TypedKind::Finished
         | TypedKind::Handle { .. }
         | TypedKind::Call { .. } => both(false),
-        TypedKind::Local { local } => both(setting.local(*local)),
-        TypedKind::Parameter { parameter } => both(setting.parameter(*parameter)),
+        TypedKind::Variable { variable } => both(setting.marks(*variable)),
         TypedKind::Input { index } => Found {
             whole: false,
             field: setting.reads() && index_uniform(setting, index),

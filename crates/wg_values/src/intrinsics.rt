@@ -20,7 +20,7 @@ fn less(s: Scalar, a: Word, b: Word) -> bool
 }
 
 /// The lesser of two words of a scalar of 32 bits.
-pub fn lesser(s: Scalar, a: Word, b: Word) -> Word
+fn lesser(s: Scalar, a: Word, b: Word) -> Word
     requires narrow { is_wide s ≡ false }
     ensures { result ≡ least s a b }
 {
@@ -28,7 +28,7 @@ pub fn lesser(s: Scalar, a: Word, b: Word) -> Word
 }
 
 /// The greater of two words of a scalar of 32 bits.
-pub fn greater(s: Scalar, a: Word, b: Word) -> Word
+fn greater(s: Scalar, a: Word, b: Word) -> Word
     requires narrow { is_wide s ≡ false }
     ensures { result ≡ greatest s a b }
 {

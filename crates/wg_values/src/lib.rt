@@ -17,7 +17,7 @@ mod zeros;
 
 pub use conversions::convert;
 pub use extents::Piece;
-pub use intrinsics::{greater, intrinsic, lesser};
+pub use intrinsics::intrinsic;
 pub use operators::{combine_all, prefix_all, step_all, truth_word};
 pub use place::{
     Setting, buffer_place, components, element, fetch, grant, handle_place, input_place, part,
@@ -26,4 +26,4 @@ pub use place::{
 pub use requests::{ask, close, target};
 pub use structs::{Structs, field_piece};
 pub use words::{put_all, word_at, zero_words};
-pub use zeros::{fresh, parameter_size, zero_value};
+pub use zeros::{first_variables, parameter_size, zero_value};

@@ -55,8 +55,7 @@ fn stored_words(store: Store, state: &State) -> &[Word]
     ensures { result.now ≡ stored store state.now }
 {
     match store {
-        Store::Local { local } => list(&state.frame.locals, local),
-        Store::Parameter { parameter } => list(&state.frame.parameters, parameter),
+        Store::Variable { variable } => list(&state.variables, variable),
         Store::Shared { variable } => list(&state.world.shared, variable),
         Store::Buffer { buffer } => list(&state.world.buffers, buffer),
         Store::Input { record } => list(&state.world.inputs, record),
@@ -121,13 +120,9 @@ fn write_store(alloc: Global, store: Store, from: u64, values: &[Word], state: &
     ensures { state.new ≡ written (spot.At store from) values.now state.old }
 {
     match store {
-        Store::Local { local } => {
-            let lists = mem::replace(&mut state.frame.locals, WordLists::new(alloc));
-            state.frame.locals = write_list(alloc, lists, local, from, values);
-        }
-        Store::Parameter { parameter } => {
-            let lists = mem::replace(&mut state.frame.parameters, WordLists::new(alloc));
-            state.frame.parameters = write_list(alloc, lists, parameter, from, values);
+        Store::Variable { variable } => {
+            let lists = mem::replace(&mut state.variables, WordLists::new(alloc));
+            state.variables = write_list(alloc, lists, variable, from, values);
         }
         Store::Shared { variable } => {
             let lists = mem::replace(&mut state.world.shared, WordLists::new(alloc));
@@ -170,10 +165,7 @@ fn read_words(
         Store::Buffer { .. } | Store::Input { .. } => {
             setting.structs.read(setting.alloc, t, words.as_slice())
         }
-        Store::Local { .. }
-        | Store::Parameter { .. }
-        | Store::Shared { .. }
-        | Store::Granted { .. } => Ok(words),
+        Store::Variable { .. } | Store::Shared { .. } | Store::Granted { .. } => Ok(words),
     }
 }
 

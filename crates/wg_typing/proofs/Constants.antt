@@ -1,12 +1,12 @@
 -- What has a value as a `const` is a number, so a static constant has no struct type.
 use Rattle.std.proofs.Common.{◌≡◌, true, List, [], ◌∷◌, map, Option, Some, None, refl, sym, subst}
 use Rattle.wg_words.specs.declared.place.Place.{Place}
-use Rattle.wg_typing.specs.Maybe.{and_then}
+use Rattle.wg_words.specs.Maybe.{◌>>=◌}
 use Rattle.wg_typing.specs.Conversions.{numbers, type_of, fits, is_number, truth_type, common_numbers}
 use Rattle.wg_typed.specs.Constants.{Known, Right, expr_value, form_value, link_value, const_value, applied_value}
 use Rattle.wg_typed.specs.Constants.{chain_value as const_chain}
 use Rattle.wg_typing.specs.Scope.{Context, as_const, look, known_names, constant_if}
-use Rattle.wg_typing.specs.Layers.{FormLayer, LinkLayer, Part, TypedPart, typed_at, typed_part, convert, fit}
+use Rattle.wg_typing.specs.Layers.{typed_at, typed_part, convert, fit}
 use Rattle.wg_typing.specs.TypingName.{const_name}
 use Rattle.wg_typing.specs.TypingOperators.{prefix_type, chain_value, suited, run_type, chain_type, chain_links, prefix_value, choice_value}
 use Rattle.wg_typing.specs.TypingExpr.{ExprForm, expr_seen, form_seen, link_seen, part}
@@ -27,16 +27,20 @@ use Rattle.wg_typing.proofs.Exprs.{mapped}
 use Rattle.wg_typing.proofs.Facts.{Has, some_value}
 use Rattle.wg_typing.proofs.Names.{AllStand, StandsIf, look_stands}
 use Rattle.wg_typing.proofs.Types.{is_number_type}
+use Rattle.wg_typing.specs.declared.part.FormLayer.{FormLayer}
+use Rattle.wg_typing.specs.declared.part.LinkLayer.{LinkLayer}
+use Rattle.wg_typing.specs.declared.part.Part.{Part}
+use Rattle.wg_typing.specs.declared.part.TypedPart.{TypedPart}
 
 -- where it has a type, that is of numbers
 abbrev IsNumber : Option Value → Type 0
 IsNumber (Some (value.Typed of standing tree)) = is_number of ≡ true
-IsNumber (Some (value.Object o)) = Unit {0}
+IsNumber (Some (value.Object o element)) = Unit {0}
 IsNumber (Some (value.Act name a)) = Unit {0}
 IsNumber (Some (value.Text bytes)) = Unit {0}
 IsNumber None = Unit {0}
 
-then_number : {A : Type 0} (o : Option A) (f : A → Option Value) → ((a : A) → o ≡ Some a → IsNumber (f a)) → IsNumber (and_then o f)
+then_number : {A : Type 0} (o : Option A) (f : A → Option Value) → ((a : A) → o ≡ Some a → IsNumber (f a)) → IsNumber (◌>>=◌ o f)
 then_number None f k = tt
 then_number (Some a) f k = k a refl
 
@@ -46,8 +50,7 @@ named_is place (Some (meant.Struct number)) s h = tt
 named_is place (Some (meant.Constant of words None)) s h = tt
 named_is place (Some (meant.Constant of words (Some v))) s h = s
 named_is place (Some (meant.Shared variable of)) s h = tt
-named_is place (Some (meant.Local local of constant)) s h = tt
-named_is place (Some (meant.Parameter parameter of)) s h = tt
+named_is place (Some (meant.Variable variable of constant)) s h = tt
 named_is place (Some (meant.Object object)) s h = tt
 named_is place (Some (meant.Function number is_entry result parameters chain)) s h = tt
 named_is place (Some meant.Itself) s h = tt
@@ -56,7 +59,7 @@ named_is place (Some meant.Broken) s h = tt
 pub typed_number : (p : Place) (v : Option Value) (t : TypedPart) → typed_at p v ≡ Some t → IsNumber v → is_number t.of ≡ true
 typed_number p None t e n = absurd (cc)
 typed_number p (Some (value.Typed of standing tree)) t e n = subst (λ (t : TypedPart). is_number t.of ≡ true) (some_value e) n
-typed_number p (Some (value.Object o)) t e n = absurd (cc)
+typed_number p (Some (value.Object o element)) t e n = absurd (cc)
 typed_number p (Some (value.Act name a)) t e n = absurd (cc)
 typed_number p (Some (value.Text bytes)) t e n = absurd (cc)
 
@@ -74,13 +77,13 @@ abbrev NumberIf : Option TypeTree → Type 0
 NumberIf None = Unit {0}
 NumberIf (Some t) = is_number t ≡ true
 
-then_number_if : {A : Type 0} (o : Option A) (f : A → Option TypeTree) → ((a : A) → NumberIf (f a)) → NumberIf (and_then o f)
+then_number_if : {A : Type 0} (o : Option A) (f : A → Option TypeTree) → ((a : A) → NumberIf (f a)) → NumberIf (◌>>=◌ o f)
 then_number_if None f k = tt
 then_number_if (Some a) f k = k a
 
 chain_number : (a : Option TypeTree) (rest : List (LinkLayer Part)) → NumberIf a → NumberIf (chain_type a rest)
 chain_number a [] n = n
-chain_number a (l ∷ rest) n = chain_number (and_then a (λ of. run_type of l)) rest
+chain_number a (l ∷ rest) n = chain_number (◌>>=◌ a (λ of. run_type of l)) rest
     (then_number_if a _ (λ of. then_number_if (typed_part l.operand) _ (λ t. then_number_if (suited l.operator of t.of) _ (λ o. is_number_type o.result))))
 
 chain_is : (place : Place) (first : Part) (rest : List (LinkLayer Part)) → IsNumber first.value → IsNumber (chain_value place first rest)

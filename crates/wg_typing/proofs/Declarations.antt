@@ -2,14 +2,14 @@
 use Rattle.std.proofs.Common.{◌≡◌, ℕ, Bool, true, false, not, List, [], ◌∷◌, ◌++◌, Option, Some, None, refl, subst, cond}
 use Rattle.std.specs.Prelude.{◌||◌, is_some, ◌&&◌}
 use Rattle.wg_words.specs.declared.place.Place.{Place}
-use Rattle.wg_typing.specs.Maybe.{and_then, if_there}
+use Rattle.wg_words.specs.Maybe.{◌>>=◌}
+use Rattle.wg_typing.specs.Maybe.{if_there}
 use Rattle.wg_typing.specs.RulesMismatch.{unfit_handle}
 use Rattle.wg_typing.specs.RulesOutOfProfile.{is_no_record}
 use Rattle.wg_typing.specs.RulesBadOutputCall.{starts, starts_local}
-use Rattle.wg_typing.specs.Scope.{Context, GivesBack, nothing, a_value, unsure, named_type, own_names, once}
+use Rattle.wg_typing.specs.Scope.{Context, named_type, own_names, once}
 use Rattle.wg_typing.specs.Sites.{at_if}
-use Rattle.wg_typing.specs.Site.{AtObject}
-use Rattle.wg_typing.specs.Typing.{UnknownName, Mismatch, BadBarrier, BadOutputCall, OutOfProfile}
+use Rattle.wg_typing.specs.Site.{AtObject, AtGoal}
 use Rattle.wg_typing.specs.TypingDeclaration.{with_local, declarator_after, declarator_sites, declarator_tree, declarators_after, declarators_sites, declarators_trees, all_declarators, declared_as, declaration_after, declaration_sites, declaration_trees, start_in, start_of, start_there, start_sites_of}
 use Rattle.wg_typing.specs.TypingDeclared.{declared_type}
 use Rattle.wg_typing.specs.TypingExpr.{part}
@@ -26,24 +26,30 @@ use Rattle.wg_typing.specs.declared.scope.Act.TheVariants as act
 use Rattle.wg_typing.specs.declared.scope.Value.{Value}
 use Rattle.wg_typing.specs.declared.scope.Value.TheVariants as value
 use Rattle.wg_typing.proofs.Exprs.{has_value}
-use Rattle.wg_typing.proofs.Facts.{Empty, Has, and_left, and_right, has_is_none, has_is_some, has_then, has_where, is_false, not_false, empty_left, empty_right}
+use Rattle.wg_typing.proofs.Facts.{Empty, Has, and_left, and_right, has_is_none, has_is_some, has_then, has_where, is_false, not_false}
 use Rattle.wg_typing.proofs.Layers.{Sound}
 use Rattle.wg_typing.proofs.Names.{AllStand, NoneAllowed, has_type, stand_push}
 use Rattle.wg_typing.proofs.Sites.{Clear, Well, well_left, well_only, well_right}
 use Rattle.wg_typing.proofs.Wanted.{Elemental, elemental, has_declared}
 use Rattle.wg_typing.specs.Named.{is_among}
-use Rattle.wg_typing.specs.TypingActs.{NamedCall, call_in, called_at, is_sync}
-use Rattle.wg_typing.specs.RulesShared.{no_value, no_value_at, failing}
+use Rattle.wg_typing.specs.TypingActs.{call_in, called_at, is_sync}
+use Rattle.wg_typing.specs.RulesShared.{no_value_at}
 use Rattle.wg_typing.specs.Conversions.{fits, same_type, truth_type}
 use Rattle.wg_typing.specs.Layers.{typed_at}
 use Rattle.wg_typed.specs.declared.typed_expr.TypedExpr.{TypedExpr}
+use Rattle.wg_typing.specs.declared.context.GivesBack.{GivesBack}
+use Rattle.wg_typing.specs.declared.part.NamedCall.{NamedCall}
+use Rattle.wg_typing.specs.declared.context.GivesBack.TheVariants as gives_back
+use Rattle.wg_typing.specs.declared.fault.TypingRule.TheVariants.{UnknownName, Mismatch, BadBarrier, BadOutputCall, OutOfProfile}
+use Rattle.wg_typing.specs.PartSites.{site_if}
+use Rattle.wg_typing.proofs.Parts.{holds}
 
 -- ---- contexts that are fine
 
 abbrev pub IsSure : GivesBack → Type 0
-IsSure nothing = Unit {0}
-IsSure (a_value of) = Unit {0}
-IsSure unsure = ⊥
+IsSure gives_back.Nothing = Unit {0}
+IsSure (gives_back.Value of) = Unit {0}
+IsSure gives_back.Unsure = ⊥
 
 abbrev pub AllHave : {A : Type 0} → List (Option A) → Type 0
 AllHave [] = Unit {0}
@@ -76,11 +82,11 @@ local_fine : (name : Named) (constant : Bool) (o : Option TypeTree) (v : Option 
 local_fine name constant None v c h f = absurd h
 local_fine name constant (Some of) v c h f = record { names = stand_push c.names _ f.names tt; values = f.values; gives = f.gives; handles = f.handles }
 
-start_is : (goal : TypeTree) (p : Place) (v : Option Value) (by_name : Option NamedCall) → Has v → Empty (no_value_at p v) → Empty (failing (λ t. fits t.of goal) (typed_at p v)) → Empty (called_at (λ k. not (starts_local (Some goal) k)) (call_in v by_name))
+start_is : (goal : TypeTree) (p : Place) (v : Option Value) (by_name : Option NamedCall) → Has v → Empty (no_value_at p v) → Well (site_if (AtGoal goal) (typed_at p v)) → Empty (called_at (λ k. not (starts_local (Some goal) k)) (call_in v by_name))
     → Empty (called_at is_sync (call_in v by_name)) → Has (start_in goal p v)
 start_is goal p None k h n e o s = absurd h
-start_is goal p (Some (value.Typed of standing tree)) k h n e o s = has_where (fits of goal) _ (not_false (fits of goal) (is_false _ p e))
-start_is goal p (Some (value.Object object)) k h n e o s = absurd n
+start_is goal p (Some (value.Typed of standing tree)) k h n e o s = has_where (fits of goal) _ (holds (fits of goal) p ((well_only e).clear Mismatch))
+start_is goal p (Some (value.Object object element)) k h n e o s = absurd n
 start_is goal p (Some (value.Text bytes)) k h n e o s = absurd n
 start_is goal p (Some (value.Act name (act.Step x))) k h n e o s = absurd n
 start_is goal p (Some (value.Act name (act.Barrier true))) k h n e o s = absurd s
@@ -93,9 +99,9 @@ start_is goal p (Some (value.Act name (act.Finished tracked))) k h n e o s = has
 start_has : (c : Context) (goal : TypeTree) (v : Option Expr) → Sound c → Well (start_sites_of c (Some goal) v) → Has (if_there (start_of c goal) v)
 start_has c goal None s h = tt
 start_has c goal (Some e) s h =
-    let here = well_only (well_right h) in
+    let here = well_only (well_left (well_right h)) in
     has_then (start_of c goal e) _ (start_is goal (part c e).place (part c e).value (part c e).by_name (has_value c s e (well_left h))
-    (empty_left (no_value (part c e)) _ (here.clear Mismatch)) (empty_right (no_value (part c e)) _ (here.clear Mismatch)) (here.clear BadOutputCall) (here.clear BadBarrier)) (λ t q. tt)
+    (here.clear Mismatch) (well_right (well_right h)) (here.clear BadOutputCall) (here.clear BadBarrier)) (λ t q. tt)
 
 pub record Declares (tree : Type 0) (c : Context) : Type 0 where
   pub form : tree
@@ -125,7 +131,7 @@ has_declaration d c f h = has_declarators (is_some d.constant) (declared_as d c)
 
 -- ---- objects with a record type
 
-number_of : (t : Option TypeTree) (p : Place) → Has t → Empty (at_if (is_no_record t) p) → Has (and_then t struct_number)
+number_of : (t : Option TypeTree) (p : Place) → Has t → Empty (at_if (is_no_record t) p) → Has (◌>>=◌ t struct_number)
 number_of None p h e = absurd h
 number_of (Some t) p h e = has_is_none (struct_number t) (is_false _ p e)
 
@@ -133,7 +139,7 @@ either_false : (a b : Bool) (p : Place) → Empty (at_if (not a || b) p) → (a 
 either_false true b p h = (refl, h)
 either_false false b p h = absurd h
 
-record_has : (c : Context) (of : Option TypeName) → AllStand c.names → Has of → Well (type_there c of) → Has (and_then of (named_type c.names))
+record_has : (c : Context) (of : Option TypeName) → AllStand c.names → Has of → Well (type_there c of) → Has (◌>>=◌ of (named_type c.names))
 record_has c None n h w = absurd h
 record_has c (Some of) n h w = has_type c of n ((well_only w).clear UnknownName)
 
@@ -152,7 +158,7 @@ request_has c None number p v k g n h e o s = absurd g
 request_has c (Some group) None p v k g n h e o s = absurd n
 request_has c (Some group) (Some number) p None k g n h e o s = absurd h
 request_has c (Some group) (Some number) p (Some (value.Typed of standing tree)) k g n h e o s = absurd e
-request_has c (Some group) (Some number) p (Some (value.Object object)) k g n h e o s = absurd e
+request_has c (Some group) (Some number) p (Some (value.Object object element)) k g n h e o s = absurd e
 request_has c (Some group) (Some number) p (Some (value.Text bytes)) k g n h e o s = absurd e
 request_has c (Some group) (Some number) p (Some (value.Act name (act.Step x))) k g n h e o s = absurd e
 request_has c (Some group) (Some number) p (Some (value.Act name (act.Barrier true))) k g n h e o s = absurd s
@@ -168,7 +174,7 @@ handle_fine name None handle c h k f = absurd h
 handle_fine name (Some number) handle c h k f = record { names = stand_push c.names _ f.names tt; values = f.values; gives = f.gives; handles = have_push c.handles handle f.handles k }
 
 pub has_handle : (of : ObjectType) (name : Named) (e : Expr) (c : Context) → Fine c → Well (handle_sites of name e c)
-    → Declares (Has (and_then (handle_request c of e) (λ r. Some (request_stmt c r)))) (handle_after of name e c)
+    → Declares (Has (◌>>=◌ (handle_request c of e) (λ r. Some (request_stmt c r)))) (handle_after of name e c)
 has_handle of name e c f h =
     let objects = well_left (well_right h) in
     let object = well_only (well_left (well_right objects)) in

@@ -1,14 +1,12 @@
 -- Expressions in which no rule is broken have values.
 use Rattle.std.proofs.Common.{Bool, true, false, cond, List, [], ◌∷◌, map, Option, Some, None, sym, subst}
 use Rattle.std.specs.Prelude.{◌==◌}
-use Rattle.wg_typing.specs.Layers.{Layer, FormLayer, member, method, index, LinkLayer, map_form, map_link, map_layer, zero_word}
-use Rattle.wg_typing.specs.RulesShared.{form_parts, forms_parts, links_parts}
-use Rattle.wg_typing.specs.Scope.{Context}
+use Rattle.wg_typing.specs.Layers.{Layer, map_form, map_link, map_layer}
+use Rattle.wg_typing.specs.Scope.{Context, look}
 use Rattle.wg_typing.specs.Sites.{Sites, ◌&◌, all_sites}
-use Rattle.wg_typing.specs.Site.{Site, AtFlag}
-use Rattle.wg_typing.specs.Typing.{BadBarrier, BadOutputCall}
-use Rattle.wg_typing.specs.TypingCallee.{CalledName, plain, entry, itself, builtin, broken, unknown, on_numbers, interlocked, levels, barrier, barrier_of, callee}
-use Rattle.wg_typing.specs.TypingExpr.{ExprForm, part_of, sites_of_all, flag_sites_of_all, form_sites, link_sites, argument_sites, inner_sites, link_flag_sites, flags_at, layer_value, layer_part, layer_sites, no_flag_sites, expr_seen, form_seen, link_seen, expr_form, part, sites_of}
+use Rattle.wg_typing.specs.Site.{Site, AtUsed}
+use Rattle.wg_typing.specs.TypingCallee.{callee}
+use Rattle.wg_typing.specs.TypingExpr.{ExprForm, part_of, flag_sites_of_all, link_flag_sites, flags_at, layer_value, layer_part, layer_sites, no_flag_sites, expr_seen, form_seen, link_seen, expr_form, part, sites_of, value_sites, values_sites, given_sites, form_values, forms_sites, form_after, links_sites, sites_of_value}
 use Rattle.wg_typing.specs.TypingFlags.{all_or, another, linked_pieces, are_flags, chain_pieces}
 use Rattle.wg_tree.specs.declared.expr.Expr.{Expr, roll-Expr, fold-roll-Expr, ind-Expr, map-Expr}
 use Rattle.wg_tree.specs.declared.expr.Expr.TheOpen.{Expr-F, Form-F}
@@ -18,12 +16,32 @@ use Rattle.wg_typing.specs.declared.scope.Act.TheVariants as act
 use Rattle.wg_typing.specs.declared.scope.Value.{Value}
 use Rattle.wg_typing.specs.declared.scope.Value.TheVariants as value
 use Rattle.wg_typing.proofs.Barriers.{AllFlags, WholePieces, whole_pieces}
-use Rattle.wg_typing.proofs.Calls.{Given}
+use Rattle.wg_typing.proofs.Calls.{Given, has_call}
 use Rattle.wg_typing.proofs.Facts.{Has}
-use Rattle.wg_typing.proofs.Layers.{AllGiven, Sound, has_layer}
-use Rattle.wg_typing.proofs.Parts.{AllWhole, Whole, all_whole_left}
+use Rattle.wg_typing.proofs.Layers.{Sound, value_is_typed}
+use Rattle.wg_typing.proofs.Parts.{Whole, AllTyped, IsTyped, said}
 use Rattle.wg_typing.proofs.Sites.{Clear, Well, well_left, well_only, well_right}
-use Rattle.wg_typing.specs.TypingActs.{NamedCall, call_in}
+use Rattle.wg_typing.specs.TypingActs.{call_in}
+use Rattle.wg_typing.specs.declared.part.FormLayer.{FormLayer}
+use Rattle.wg_typing.specs.declared.part.LinkLayer.{LinkLayer}
+use Rattle.wg_typing.specs.declared.called.CalledName.{CalledName}
+use Rattle.wg_typing.specs.declared.part.NamedCall.{NamedCall}
+use Rattle.wg_typing.specs.declared.part.FormLayer.TheVariants as form_layer
+use Rattle.wg_typing.specs.declared.part.Piece.TheVariants as piece
+use Rattle.wg_typing.specs.declared.called.CalledName.TheVariants as called_name
+use Rattle.wg_typing.specs.declared.called.Builtin.TheVariants as builtin
+use Rattle.wg_typing.specs.declared.fault.TypingRule.TheVariants.{BadBarrier, BadOutputCall, UnknownName, Mismatch}
+use Rattle.wg_typing.specs.TypingForms.{begun}
+use Rattle.wg_typing.specs.TypingOperators.{typed_of, type_after}
+use Rattle.wg_typing.specs.Conversions.{of_value_type}
+use Rattle.wg_typing.proofs.Forms.{FormTyped, FormsTyped, has_forms}
+use Rattle.wg_typing.proofs.Operations.{LinksTyped, has_prefix, has_cast, has_choice, has_chain}
+use Rattle.wg_typing.proofs.Names.{NoneAllowed, look_stands, is_called, has_named, has_zeros}
+use Rattle.wg_typing.proofs.Signatures.{has_constructed}
+use Rattle.wg_typing.specs.declared.part.Along.{Along}
+use Rattle.wg_typing.specs.declared.context.Around.{Around}
+use Rattle.wg_typed.specs.declared.types.TypeTree.{TypeTree}
+use Rattle.wg_words.specs.declared.place.Place.{Place}
 
 -- ---- expressions that are good: where no rule is broken in them they have values, and as flags of a barrier whole pieces
 
@@ -36,9 +54,9 @@ AllGood [] = Unit {0}
 AllGood (s ∷ rest) = Good s × AllGood rest
 
 abbrev GoodForm : FormLayer ExprForm → Type 0
-GoodForm (member name) = Unit {0}
-GoodForm (method name arguments) = AllGood arguments
-GoodForm (index at) = Good at
+GoodForm (form_layer.Member name) = Unit {0}
+GoodForm (form_layer.Method name arguments) = AllGood arguments
+GoodForm (form_layer.Index at) = Good at
 
 abbrev AllGoodForms : List (FormLayer ExprForm) → Type 0
 AllGoodForms [] = Unit {0}
@@ -66,65 +84,79 @@ GoodParts (Expr-F.Postfix first forms) = Good first × AllGoodForms forms
 GoodParts (Expr-F.Chain first rest) = Good first × AllGoodLinks rest
 GoodParts (Expr-F.Choice test a b) = Good test × (Good a × Good b)
 
--- ---- the parts have values
+-- ---- the parts have types
 
-whole_all : (expr_form : List ExprForm) → AllGood expr_form → Well (sites_of_all expr_form) → AllWhole (map part_of expr_form)
-whole_all [] g h = tt
-whole_all (s ∷ rest) g h = (g.0.whole (well_left h), whole_all rest g.1 (well_right h))
+value_typed : (around : Around) (s : ExprForm) → NoneAllowed around → Good s → Well (value_sites around s) → IsTyped s.part
+value_typed around s n g h = value_is_typed around s.part n (g.whole (well_left h)) (well_only (well_right h))
+
+values_typed : (around : Around) (expr_form : List ExprForm) → NoneAllowed around → AllGood expr_form → Well (values_sites around expr_form) → AllTyped (map part_of expr_form)
+values_typed around [] n g h = tt
+values_typed around (s ∷ rest) n g h = (value_typed around s n g.0 (well_left h), values_typed around rest n g.1 (well_right h))
 
 flags_all : (expr_form : List ExprForm) → AllGood expr_form → Well (flag_sites_of_all expr_form) → AllFlags (map part_of expr_form)
 flags_all [] g h = tt
 flags_all (s ∷ rest) g h = (g.0.flags (well_left h), flags_all rest g.1 (well_right h))
 
-given : (k : CalledName) (expr_form : List ExprForm) → AllGood expr_form → Well (argument_sites k expr_form) → Given k (map part_of expr_form)
-given (plain number result parameters chain) expr_form g h = whole_all expr_form g h
-given entry expr_form g h = whole_all expr_form g h
-given itself expr_form g h = whole_all expr_form g h
-given (builtin (on_numbers i)) expr_form g h = whole_all expr_form g h
-given (builtin (interlocked f)) expr_form g h = whole_all expr_form g h
-given (builtin levels) expr_form g h = whole_all expr_form g h
-given (builtin (barrier syncs)) expr_form g h = whole_all expr_form g h
-given (builtin barrier_of) expr_form g h = flags_all expr_form g h
-given broken expr_form g h = whole_all expr_form g h
-given unknown expr_form g h = whole_all expr_form g h
+given : (around : Around) (k : CalledName) (expr_form : List ExprForm) → NoneAllowed around → AllGood expr_form → Well (given_sites around k expr_form) → Given k (map part_of expr_form)
+given around (called_name.Plain number result parameters chain) expr_form n g h = values_typed around expr_form n g h
+given around called_name.Entry expr_form n g h = values_typed around expr_form n g h
+given around called_name.Itself expr_form n g h = values_typed around expr_form n g h
+given around (called_name.Builtin (builtin.OnNumbers i)) expr_form n g h = values_typed around expr_form n g h
+given around (called_name.Builtin (builtin.Interlocked f)) expr_form n g h = values_typed around expr_form n g h
+given around (called_name.Builtin builtin.Levels) expr_form n g h = values_typed around expr_form n g h
+given around (called_name.Builtin (builtin.Barrier syncs)) expr_form n g h = values_typed around expr_form n g h
+given around (called_name.Builtin builtin.BarrierOf) expr_form n g h = flags_all expr_form g h
+given around called_name.Broken expr_form n g h = values_typed around expr_form n g h
+given around called_name.Unknown expr_form n g h = values_typed around expr_form n g h
 
-whole_form : (f : FormLayer ExprForm) → GoodForm f → Well (form_sites f) → AllWhole (form_parts (map_form part_of f))
-whole_form (member name) g h = tt
-whole_form (method name arguments) g h = whole_all arguments g h
-whole_form (index at) g h = (g.whole h, tt)
+form_typed : (around : Around) (f : FormLayer ExprForm) → NoneAllowed around → GoodForm f → Well (form_values around f) → FormTyped (map_form part_of f)
+form_typed around (form_layer.Member name) n g h = tt
+form_typed around (form_layer.Method name arguments) n g h = values_typed around arguments n g h
+form_typed around (form_layer.Index at) n g h = value_typed around at n g h
 
-whole_forms : (forms : List (FormLayer ExprForm)) → AllGoodForms forms → Well (all_sites (map form_sites forms)) → AllWhole (forms_parts (map (map_form part_of) forms))
-whole_forms [] g h = tt
-whole_forms (f ∷ rest) g h = all_whole_left (form_parts (map_form part_of f)) _ (whole_form f g.0 (well_left h)) (whole_forms rest g.1 (well_right h))
+forms_typed : (c : Context) (place : Place) (a : Option Along) (forms : List (FormLayer ExprForm)) → NoneAllowed c.around → AllGoodForms forms → Well (forms_sites c place a forms) → FormsTyped forms
+forms_typed c place a [] n g h = tt
+forms_typed c place a (f ∷ rest) n g h = (form_typed c.around f n g.0 (well_left h), forms_typed c place (form_after c place a (map_form part_of f)) rest n g.1 (well_right (well_right (well_right h))))
 
-whole_links : (rest : List (LinkLayer ExprForm)) → AllGoodLinks rest → Well (all_sites (map link_sites rest)) → AllWhole (links_parts (map (map_link part_of) rest))
-whole_links [] g h = tt
-whole_links (l ∷ rest) g h = (g.0.whole (well_left h), whole_links rest g.1 (well_right h))
-
-all_given : (c : Context) (layer : Layer ExprForm) → GoodParts layer → Well (inner_sites c layer) → AllGiven c (map_layer part_of layer)
-all_given c (Expr-F.Number at n unsigned long) g h = tt
-all_given c (Expr-F.Text at bytes) g h = tt
-all_given c (Expr-F.Truth at b) g h = tt
-all_given c (Expr-F.Name name) g h = tt
-all_given c (Expr-F.Call name arguments) g h = given (callee c name) arguments g h
-all_given c (Expr-F.Construct at of arguments) g h = whole_all arguments g h
-all_given c (Expr-F.Bracket at inner) g h = g.whole h
-all_given c (Expr-F.Prefix at operator operand) g h = g.whole h
-all_given c (Expr-F.Cast at to operand) g h = g.whole h
-all_given c (Expr-F.Zeros at of) g h = tt
-all_given c (Expr-F.Postfix first forms) g h = (g.0.whole (well_left h), whole_forms forms g.1 (well_right h))
-all_given c (Expr-F.Chain first rest) g h = (g.0.whole (well_left h), whole_links rest g.1 (well_right h))
-all_given c (Expr-F.Choice test a b) g h = (g.0.whole (well_left h), (g.1.0.whole (well_left (well_right h)), g.1.1.whole (well_right (well_right h))))
+links_typed : (around : Around) (place : Place) (before : Option TypeTree) (rest : List (LinkLayer ExprForm)) → NoneAllowed around → AllGoodLinks rest → Well (links_sites around place before rest) → LinksTyped rest
+links_typed around place before [] n g h = tt
+links_typed around place before (l ∷ rest) n g h = (value_typed around l.operand n g.0 (well_left h), links_typed around place (type_after before (map_link part_of l)) rest n g.1 (well_right (well_right h)))
 
 layer_whole : (c : Context) (layer : Layer ExprForm) → Sound c → GoodParts layer → Well (layer_sites c layer) → Whole (layer_part c (map_layer part_of layer))
-layer_whole c layer s g h = has_layer c (map_layer part_of layer) s (all_given c layer g (well_left h)) (well_left (well_right h)) (well_left (well_right (well_right h))) (well_only (well_right (well_right (well_right h))))
+layer_whole c (Expr-F.Number at n unsigned long) s g h = tt
+layer_whole c (Expr-F.Text at bytes) s g h = tt
+layer_whole c (Expr-F.Truth at b) s g h = tt
+layer_whole c (Expr-F.Name name) s g h =
+    let here = well_only h in
+    has_named c.around name (look name.name c.names) s.values (look_stands name.name c.names s.names) (here.clear UnknownName) (here.clear Mismatch)
+layer_whole c (Expr-F.Call name arguments) s g h = has_call c name.place (callee c name) (map part_of arguments) s.names (is_called c name s.names) (given c.around (callee c name) arguments s.values g (well_left h))
+    (record { call = well_only (well_left (well_right h)); arguments = well_right (well_right h) })
+layer_whole c (Expr-F.Construct at of arguments) s g h =
+    let typed = values_typed c.around arguments s.values g (well_left h) in
+    let made = said (map part_of arguments) _ typed (well_right h) in
+    has_constructed at of (map part_of arguments) typed (well_left made) (well_right made)
+layer_whole c (Expr-F.Bracket at inner) s g h = g.whole h
+layer_whole c (Expr-F.Prefix at operator operand) s g h = has_prefix at operator operand.part (value_typed c.around operand s.values g (well_left h)) (well_right h)
+layer_whole c (Expr-F.Cast at to operand) s g h = has_cast at (of_value_type to) operand.part (value_typed c.around operand s.values g (well_left h)) (well_right h)
+layer_whole c (Expr-F.Zeros at of) s g h = has_zeros at of.place (look of.name c.names) (look_stands of.name c.names s.names) ((well_only h).clear UnknownName)
+layer_whole c (Expr-F.Postfix first forms) s g h =
+    let after = well_right (well_right h) in
+    has_forms c first.part.place first.part.value forms (g.0.whole (well_left h)) (forms_typed c first.part.place (begun first.part) forms s.values g.1 after) after
+layer_whole c (Expr-F.Chain first rest) s g h =
+    has_chain c.around first.part.place first.part rest (value_typed c.around first s.values g.0 (well_left h)) (links_typed c.around first.part.place (typed_of first.part) rest s.values g.1 (well_right h)) (well_right h)
+layer_whole c (Expr-F.Choice test a b) s g h =
+    let typed_test = value_typed c.around test s.values g.0 (well_left h) in
+    let typed_a = value_typed c.around a s.values g.1.0 (well_left (well_right h)) in
+    let typed_b = value_typed c.around b s.values g.1.1 (well_left (well_right (well_right h))) in
+    let chosen = said (test.part ∷ a.part ∷ b.part ∷ []) _ (typed_test, (typed_a, (typed_b, tt))) (well_right (well_right (well_right h))) in
+    has_choice test.part.place test.part a.part b.part typed_test typed_a typed_b (well_left chosen) (well_right chosen)
 
 -- ---- what the expression is to a barrier
 
-another_whole : (v : Option Value) (by_name : Option NamedCall) → Has v → Clear (AtFlag (call_in v by_name)) → WholePieces (another v)
+another_whole : (v : Option Value) (by_name : Option NamedCall) → Has v → Clear (AtUsed (call_in v by_name)) → WholePieces (another v)
 another_whole None by_name h k = absurd h
 another_whole (Some (value.Typed of standing tree)) by_name h k = tt
-another_whole (Some (value.Object object)) by_name h k = tt
+another_whole (Some (value.Object object element)) by_name h k = tt
 another_whole (Some (value.Text bytes)) by_name h k = tt
 another_whole (Some (value.Act name (act.Step step))) by_name h k = tt
 another_whole (Some (value.Act name (act.Barrier true))) by_name h k = absurd (k.clear BadBarrier)
@@ -138,7 +170,7 @@ another_whole (Some (value.Act name (act.Finished tracked))) by_name h k = absur
 no_flag : (c : Context) (layer : Layer ExprForm) → Sound c → GoodParts layer → Well (no_flag_sites c layer) → WholePieces (another (layer_part c (map_layer part_of layer)).value)
 no_flag c layer s g h = another_whole (layer_part c (map_layer part_of layer)).value (layer_part c (map_layer part_of layer)).by_name (layer_whole c layer s g (well_left h)) (well_only (well_right h))
 
-zero_whole : (b : Bool) (v : Option Value) → WholePieces (another v) → WholePieces (cond b (zero_word ∷ []) (another v))
+zero_whole : (b : Bool) (v : Option Value) → WholePieces (another v) → WholePieces (cond b (piece.Zero ∷ []) (another v))
 zero_whole true v h = tt
 zero_whole false v h = h
 
@@ -224,3 +256,7 @@ good c s e = ind-Expr (λ e. Good (expr_form c e)) (λ f. GoodForm (form_of c f)
 -- an expression in which no rule is broken has a value
 pub has_value : (c : Context) → Sound c → (e : Expr) → Well (sites_of c e) → Whole (part c e)
 has_value c s e = (good c s e).whole
+
+-- one that has to be a value has a type
+pub has_type_here : (c : Context) → Sound c → (e : Expr) → Well (sites_of_value c e) → IsTyped (part c e)
+has_type_here c s e = value_typed c.around (expr_form c e) s.values (good c s e)

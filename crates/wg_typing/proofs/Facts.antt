@@ -2,7 +2,8 @@
 use Rattle.std.proofs.Common.{◌≡◌, Bool, true, false, not, cond, List, [], ◌∷◌, ◌++◌, Option, Some, None, inl, refl, sym, subst}
 use Rattle.std.specs.Prelude.{◌&&◌, ◌||◌, is_some, is_none}
 use Rattle.wg_words.specs.declared.place.Place.{Place}
-use Rattle.wg_typing.specs.Maybe.{and_then, where_true}
+use Rattle.wg_words.specs.Maybe.{◌>>=◌}
+use Rattle.wg_typing.specs.Maybe.{where_true}
 use Rattle.wg_typing.specs.Sites.{In, at_if}
 
 -- ---- places
@@ -48,6 +49,10 @@ pub not_false : (b : Bool) → not b ≡ false → b ≡ true
 not_false true e = refl
 not_false false e = cc
 
+pub not_true : (b : Bool) → not b ≡ true → b ≡ false
+not_true true e = cc
+not_true false e = refl
+
 pub and_left : (a b : Bool) → (a && b) ≡ true → a ≡ true
 and_left true b e = refl
 and_left false b e = e
@@ -80,11 +85,11 @@ pub some_value : {A : Type 0} {a b : A} → Some a ≡ Some b → a ≡ b
 some_value {A} {a} {b} e = cc
 
 -- what stands behind a value that is there
-pub then_some : {A B : Type 0} (o : Option A) (f : A → Option B) (b : B) → and_then o f ≡ Some b → (a : A) × (o ≡ Some a) × (f a ≡ Some b)
+pub then_some : {A B : Type 0} (o : Option A) (f : A → Option B) (b : B) → ◌>>=◌ o f ≡ Some b → (a : A) × (o ≡ Some a) × (f a ≡ Some b)
 then_some None f b e = absurd (cc)
 then_some (Some a) f b e = (a, refl, e)
 
-pub has_then : {A B : Type 0} (o : Option A) (f : A → Option B) → Has o → ((a : A) → o ≡ Some a → Has (f a)) → Has (and_then o f)
+pub has_then : {A B : Type 0} (o : Option A) (f : A → Option B) → Has o → ((a : A) → o ≡ Some a → Has (f a)) → Has (◌>>=◌ o f)
 has_then None f h k = absurd h
 has_then (Some a) f h k = k a refl
 
@@ -104,11 +109,11 @@ pub where_passes : {A : Type 0} (b : Bool) (a x : A) → where_true b a ≡ Some
 where_passes true a x e = refl
 where_passes false a x e = absurd (cc)
 
-pub through_where : {A B : Type 0} (b : Bool) (a : A) (f : A → Option B) → b ≡ true → and_then (where_true b a) f ≡ f a
+pub through_where : {A B : Type 0} (b : Bool) (a : A) (f : A → Option B) → b ≡ true → ◌>>=◌ (where_true b a) f ≡ f a
 through_where true a f e = refl
 through_where false a f e = absurd (cc)
 
-pub has_through : {A B : Type 0} (b : Bool) (a : A) (f : A → Option B) → b ≡ true → Has (f a) → Has (and_then (where_true b a) f)
+pub has_through : {A B : Type 0} (b : Bool) (a : A) (f : A → Option B) → b ≡ true → Has (f a) → Has (◌>>=◌ (where_true b a) f)
 has_through b a f e h = subst Has (sym (through_where b a f e)) h
 
 pub has_is_some : {A : Type 0} (o : Option A) → is_some o ≡ true → Has o

@@ -2,12 +2,17 @@
 use Rattle.std.proofs.Common.{◌≡◌, ◌⊎◌, ℕ, List, [], ◌∷◌, ◌++◌, inl, inr, refl, ap, subst}
 use Rattle.wg_words.specs.declared.place.Place.{Place}
 use Rattle.wg_typing.specs.Sites.{Sites, nowhere, only, within, ◌&◌, Among, In}
-use Rattle.wg_typing.specs.Faults.{Fault, typing_rules, tagged, faults_at, faults_in, faults, attribute_rules, attribute_faults}
-use Rattle.wg_typing.specs.Typing.{TypingRule, UnknownName, Repeated, Mismatch, NotAssignable, Recursion, LimitPassed, BadBarrier, BadOutputCall, NotCompleted, WrongArity, OutOfProfile, typing_number, places, sites, Breaks, IsWellTyped}
+use Rattle.wg_typing.specs.Faults.{typing_rules, tagged, faults_at, faults_in, faults, attribute_rules, attribute_faults}
+use Rattle.wg_typing.specs.Typing.{typing_number, places, sites, Breaks, IsWellTyped}
 use Rattle.wg_tree.specs.declared.item.Source.{Source}
-use Rattle.wg_typing.specs.Attributes.{AttributeRule, Unknown, Missing, Twice, Range, WrongMode, attribute_number, attribute_places, BreaksAttributes, AreRight}
+use Rattle.wg_typing.specs.Attributes.{attribute_number, attribute_places, BreaksAttributes, AreRight}
 use Rattle.wg_typing.specs.AttributeSites.{sites_of}
 use Rattle.wg_typed.specs.declared.typed.Typed.{Typed}
+use Rattle.wg_typing.specs.declared.fault.Fault.{Fault}
+use Rattle.wg_typing.specs.declared.fault.TypingRule.{TypingRule}
+use Rattle.wg_typing.specs.declared.fault.AttributeRule.{AttributeRule}
+use Rattle.wg_typing.specs.declared.fault.TypingRule.TheVariants.{UnknownName, Repeated, Mismatch, NotAssignable, Recursion, LimitPassed, BadBarrier, BadOutputCall, NotCompleted, WrongArity, OutOfProfile}
+use Rattle.wg_typing.specs.declared.fault.AttributeRule.TheVariants.{Unknown, Missing, Twice, Range, WrongMode}
 
 -- ---- members of lists
 

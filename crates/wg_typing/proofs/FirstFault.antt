@@ -9,10 +9,13 @@ use Rattle.std.proofs.lemmas.Option.{none-some, same_Some}
 use Rattle.wg_words.specs.declared.place.Place.{Place}
 use Rattle.wg_tree.specs.declared.item.Source.{Source}
 use Rattle.wg_typed.specs.declared.typed.Typed.{Typed}
-use Rattle.wg_typing.specs.Attributes.{AttributeRule, attribute_number, BreaksAttributes, AreRight}
-use Rattle.wg_typing.specs.Faults.{Fault, InOrder, Leads, IsFirst, is_before, same_place, is_earlier, least_from, first_of, faults, first_fault, attribute_faults, first_attribute_fault}
-use Rattle.wg_typing.specs.Typing.{TypingRule, typing_number, Breaks, IsWellTyped}
+use Rattle.wg_typing.specs.Attributes.{attribute_number, BreaksAttributes, AreRight}
+use Rattle.wg_typing.specs.Faults.{InOrder, Leads, IsFirst, is_before, same_place, is_earlier, least_from, first_of, faults, first_fault, attribute_faults, first_attribute_fault}
+use Rattle.wg_typing.specs.Typing.{typing_number, Breaks, IsWellTyped}
 use Rattle.wg_typing.proofs.Faults.{are_breaks, are_faults, none_broken, are_attribute_breaks, are_attribute_faults, none_wrong}
+use Rattle.wg_typing.specs.declared.fault.AttributeRule.{AttributeRule}
+use Rattle.wg_typing.specs.declared.fault.Fault.{Fault}
+use Rattle.wg_typing.specs.declared.fault.TypingRule.{TypingRule}
 
 -- ---- the order
 

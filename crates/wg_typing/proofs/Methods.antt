@@ -6,38 +6,40 @@ use Rattle.std.proofs.lemmas.Grind.{common_steps}
 use Prim.Native.String.{String}
 use Rattle.wg_words.specs.declared.place.Place.{Place}
 use Rattle.wg_typing.specs.Conversions.{uint_type, uints}
-use Rattle.wg_typing.specs.Layers.{Part, fit, fit_all}
-use Rattle.wg_typing.specs.Maybe.{and_then}
+use Rattle.wg_typing.specs.Layers.{fit, fit_all}
+use Rattle.wg_words.specs.Maybe.{◌>>=◌}
 use Rattle.wg_typing.specs.Named.{at_name}
-use Rattle.wg_typing.specs.RulesMismatchExpr.{unfit_arguments}
-use Rattle.wg_typing.specs.RulesNotAssignable.{fixed_method}
-use Rattle.wg_typing.specs.RulesShared.{unfit, unfit_all}
-use Rattle.wg_typing.specs.TypingObjects.{Method, load, store, interlocked, get, count, request, increment, is_valid, complete, methods, method_of, takes, method_value, element_value, has_elements, finished}
+use Rattle.wg_typing.specs.TypingObjects.{methods, method_of, takes, method_value, element_value, has_elements}
 use Rattle.wg_typed.specs.declared.types.TypeTree.{TypeTree}
 use Rattle.wg_typed.specs.declared.typed.TypedBufferType.TheVariants as buffer_type
 use Rattle.wg_typed.specs.declared.typed_expr.TypedExpr.{TypedExpr}
 use Rattle.wg_typing.specs.declared.scope.Object.{Object}
 use Rattle.wg_typing.specs.declared.scope.Object.TheVariants as object
 use Rattle.wg_typing.specs.declared.scope.Value.{Value}
-use Rattle.wg_typing.proofs.Facts.{Empty, Has, and_left, and_right, empty_left, empty_right, some_value}
+use Rattle.wg_typing.proofs.Facts.{Has, and_left, and_right, some_value}
 use Rattle.wg_typing.proofs.Interlocks.{has_raw}
-use Rattle.wg_typing.proofs.Parts.{AllTyped, IsTyped, has_fit, said}
+use Rattle.wg_typing.proofs.Parts.{AllTyped, IsTyped, has_fit}
 use Rattle.wg_typing.specs.declared.scope.Sharing.TheVariants as sharing
+use Rattle.wg_typing.specs.declared.part.Part.{Part}
+use Rattle.wg_typing.specs.declared.called.Method.{Method}
+use Rattle.wg_typing.specs.declared.called.Method.TheVariants as method
+use Rattle.wg_typing.specs.PartSites.{goal_sites, argument_sites}
+use Rattle.wg_typing.proofs.Sites.{Well, well_left, well_right}
 
 -- ---- the methods that an object has
 
 abbrev holds_for : Object → Method → Bool
-holds_for (object.Buffer buffer (buffer_type.Raw writable)) (load n) = true
-holds_for (object.Buffer buffer (buffer_type.Raw writable)) (store n) = true
-holds_for (object.Buffer buffer (buffer_type.Raw writable)) (interlocked f) = true
-holds_for (object.Input many (Some number) standing sharing) get = true
-holds_for (object.Input many record_type standing sharing) count = true
-holds_for (object.Input many record_type standing sharing) finished = true
-holds_for (object.Output output array (Some number) element) (request group) = true
-holds_for (object.Output output array None element) (increment group) = true
-holds_for (object.Output output array record_type element) is_valid = true
-holds_for (object.Handle handle number) get = true
-holds_for (object.Handle handle number) complete = true
+holds_for (object.Buffer buffer (buffer_type.Raw writable)) (method.Load n) = true
+holds_for (object.Buffer buffer (buffer_type.Raw writable)) (method.Store n) = true
+holds_for (object.Buffer buffer (buffer_type.Raw writable)) (method.Interlocked f) = true
+holds_for (object.Input many (Some number) standing sharing) method.Get = true
+holds_for (object.Input many record_type standing sharing) method.Count = true
+holds_for (object.Input many record_type standing sharing) method.Finished = true
+holds_for (object.Output output array (Some number)) (method.Request group) = true
+holds_for (object.Output output array None) (method.Increment group) = true
+holds_for (object.Output output array record_type) method.IsValid = true
+holds_for (object.Handle handle number) method.Get = true
+holds_for (object.Handle handle number) method.Complete = true
 holds_for o m = false
 
 abbrev every : (Method → Bool) → List (String × Method) → Bool
@@ -63,26 +65,24 @@ all_hold (object.Input false (Some number) standing sharing.Copied) = refl
 all_hold (object.Input false (Some number) standing sharing.Shared) = refl
 all_hold (object.Input false (Some number) standing sharing.Tracked) = refl
 all_hold (object.Input many None standing sharing) = refl
-all_hold (object.Output output true (Some number) (Some element)) = refl
-all_hold (object.Output output true None (Some element)) = refl
-all_hold (object.Output output true record_type None) = refl
-all_hold (object.Output output false (Some number) element) = refl
-all_hold (object.Output output false None element) = refl
+all_hold (object.Output output true record_type) = refl
+all_hold (object.Output output false (Some number)) = refl
+all_hold (object.Output output false None) = refl
 all_hold (object.Handle handle number) = refl
 
 -- ---- one argument, and two
 
-has_one : (t : TypeTree) (p : Part) (g : List TypedExpr → Option Value) → IsTyped p → Empty (unfit_all (t ∷ []) (p ∷ [])) → ((x : TypedExpr) → Has (g (x ∷ []))) → Has (and_then (fit_all (t ∷ []) (p ∷ [])) g)
-has_one t p g h e k = from (fit t p) (has_fit t p h (empty_left (unfit t p) _ e))
+has_one : (t : TypeTree) (p : Part) (g : List TypedExpr → Option Value) → IsTyped p → Well (goal_sites (t ∷ []) (p ∷ [])) → ((x : TypedExpr) → Has (g (x ∷ []))) → Has (◌>>=◌ (fit_all (t ∷ []) (p ∷ [])) g)
+has_one t p g h e k = from (fit t p) (has_fit t p h (well_left e))
   where
-    from : (o : Option TypedExpr) → Has o → Has (and_then (and_then o (λ x. Some (x ∷ []))) g)
+    from : (o : Option TypedExpr) → Has o → Has (◌>>=◌ (◌>>=◌ o (λ x. Some (x ∷ []))) g)
     from None h = absurd h
     from (Some x) h = k x
 
-has_two : (t u : TypeTree) (p q : Part) (g : List TypedExpr → Option Value) → IsTyped p → IsTyped q → Empty (unfit_all (t ∷ u ∷ []) (p ∷ q ∷ [])) → ((x y : TypedExpr) → Has (g (x ∷ y ∷ []))) → Has (and_then (fit_all (t ∷ u ∷ []) (p ∷ q ∷ [])) g)
-has_two t u p q g h i e k = from (fit t p) (fit u q) (has_fit t p h (empty_left (unfit t p) _ e)) (has_fit u q i (empty_left (unfit u q) _ (empty_right (unfit t p) _ e)))
+has_two : (t u : TypeTree) (p q : Part) (g : List TypedExpr → Option Value) → IsTyped p → IsTyped q → Well (goal_sites (t ∷ u ∷ []) (p ∷ q ∷ [])) → ((x y : TypedExpr) → Has (g (x ∷ y ∷ []))) → Has (◌>>=◌ (fit_all (t ∷ u ∷ []) (p ∷ q ∷ [])) g)
+has_two t u p q g h i e k = from (fit t p) (fit u q) (has_fit t p h (well_left e)) (has_fit u q i (well_left (well_right e)))
   where
-    from : (a b : Option TypedExpr) → Has a → Has b → Has (and_then (and_then a (λ x. and_then (and_then b (λ y. Some (y ∷ []))) (λ others. Some (x ∷ others)))) g)
+    from : (a b : Option TypedExpr) → Has a → Has b → Has (◌>>=◌ (◌>>=◌ a (λ x. ◌>>=◌ (◌>>=◌ b (λ y. Some (y ∷ []))) (λ others. Some (x ∷ others)))) g)
     from None b h i = absurd h
     from (Some x) None h i = absurd i
     from (Some x) (Some y) h i = k x y
@@ -108,42 +108,42 @@ at_most_one false = omega arith
 -- ---- values
 
 -- what a method gives that the object has
-has_held : (place name : Place) (o : Object) (m : Method) (parts : List Part) → holds_for o m ≡ true → takes o m parts ≡ true → AllTyped parts → Empty (unfit_arguments m parts) → Empty (fixed_method parts (Some m)) → Has (method_value place name o m parts)
-has_held place name (object.Buffer buffer (buffer_type.Raw writable)) (load n) [] k t h e f = absurd (cc)
-has_held place name (object.Buffer buffer (buffer_type.Raw writable)) (load n) (p ∷ []) k t h e f = has_one uint_type p _ h.0 e (λ x. tt)
-has_held place name (object.Buffer buffer (buffer_type.Raw writable)) (load n) (p ∷ q ∷ rest) k t h e f = absurd (too_many (length rest) 1 (omega arith) t)
-has_held place name (object.Buffer buffer (buffer_type.Raw writable)) (store n) [] k t h e f = absurd (cc)
-has_held place name (object.Buffer buffer (buffer_type.Raw writable)) (store n) (p ∷ []) k t h e f = absurd (cc)
-has_held place name (object.Buffer buffer (buffer_type.Raw writable)) (store n) (p ∷ q ∷ []) k t h e f = has_two uint_type (uints n) p q _ h.0 h.1.0 e (λ x y. tt)
-has_held place name (object.Buffer buffer (buffer_type.Raw writable)) (store n) (p ∷ q ∷ r ∷ rest) k t h e f = absurd (three_for_two (length rest) t)
-has_held place name (object.Buffer buffer (buffer_type.Raw writable)) (interlocked g) parts k t h e f = has_raw name g buffer parts h t e (said parts _ h f)
-has_held place name (object.Input many (Some number) standing sharing) get [] k t h e f = tt
-has_held place name (object.Input many (Some number) standing sharing) get (p ∷ []) k t h e f = has_one uint_type p _ h.0 e (λ x. tt)
-has_held place name (object.Input many (Some number) standing sharing) get (p ∷ q ∷ rest) k t h e f = absurd (too_many (length rest) (cond many 1 0) (at_most_one many) t)
-has_held place name (object.Input many (Some number) standing sharing) count [] k t h e f = tt
-has_held place name (object.Input many None standing sharing) count [] k t h e f = tt
-has_held place name (object.Input many record_type standing sharing) count (p ∷ rest) k t h e f = absurd (some_for_none (length rest) t)
-has_held place name (object.Input many (Some number) standing sharing) finished [] k t h e f = tt
-has_held place name (object.Input many None standing sharing) finished [] k t h e f = tt
-has_held place name (object.Input many record_type standing sharing) finished (p ∷ rest) k t h e f = absurd (some_for_none (length rest) t)
-has_held place name (object.Output output array (Some number) element) (request group) [] k t h e f = absurd (cc)
-has_held place name (object.Output output array (Some number) element) (request group) (p ∷ []) k t h e f = has_one uint_type p _ h.0 e (λ x. tt)
-has_held place name (object.Output output array (Some number) element) (request group) (p ∷ q ∷ rest) k t h e f = absurd (too_many (length rest) 1 (omega arith) t)
-has_held place name (object.Output output array None element) (increment group) [] k t h e f = absurd (cc)
-has_held place name (object.Output output array None element) (increment group) (p ∷ []) k t h e f = has_one uint_type p _ h.0 e (λ x. tt)
-has_held place name (object.Output output array None element) (increment group) (p ∷ q ∷ rest) k t h e f = absurd (too_many (length rest) 1 (omega arith) t)
-has_held place name (object.Output output array (Some number) element) is_valid [] k t h e f = tt
-has_held place name (object.Output output array None element) is_valid [] k t h e f = tt
-has_held place name (object.Output output array record_type element) is_valid (p ∷ rest) k t h e f = absurd (some_for_none (length rest) t)
-has_held place name (object.Handle handle number) get [] k t h e f = tt
-has_held place name (object.Handle handle number) get (p ∷ []) k t h e f = has_one uint_type p _ h.0 e (λ x. tt)
-has_held place name (object.Handle handle number) get (p ∷ q ∷ rest) k t h e f = absurd (past_one (length rest) t)
-has_held place name (object.Handle handle number) complete [] k t h e f = tt
-has_held place name (object.Handle handle number) complete (p ∷ rest) k t h e f = absurd (some_for_none (length rest) t)
-has_held place name o m parts k t h e f = absurd (cc)
+has_held : (place name : Place) (o : Object) (element : Option TypedExpr) (m : Method) (parts : List Part) → holds_for o m ≡ true → takes o m parts ≡ true → AllTyped parts → Well (argument_sites m parts) → Has (method_value place name o element m parts)
+has_held place name (object.Buffer buffer (buffer_type.Raw writable)) element (method.Load n) [] k t h e = absurd (cc)
+has_held place name (object.Buffer buffer (buffer_type.Raw writable)) element (method.Load n) (p ∷ []) k t h e = has_one uint_type p _ h.0 e (λ x. tt)
+has_held place name (object.Buffer buffer (buffer_type.Raw writable)) element (method.Load n) (p ∷ q ∷ rest) k t h e = absurd (too_many (length rest) 1 (omega arith) t)
+has_held place name (object.Buffer buffer (buffer_type.Raw writable)) element (method.Store n) [] k t h e = absurd (cc)
+has_held place name (object.Buffer buffer (buffer_type.Raw writable)) element (method.Store n) (p ∷ []) k t h e = absurd (cc)
+has_held place name (object.Buffer buffer (buffer_type.Raw writable)) element (method.Store n) (p ∷ q ∷ []) k t h e = has_two uint_type (uints n) p q _ h.0 h.1.0 e (λ x y. tt)
+has_held place name (object.Buffer buffer (buffer_type.Raw writable)) element (method.Store n) (p ∷ q ∷ r ∷ rest) k t h e = absurd (three_for_two (length rest) t)
+has_held place name (object.Buffer buffer (buffer_type.Raw writable)) element (method.Interlocked g) parts k t h e = has_raw name g buffer parts h t e
+has_held place name (object.Input many (Some number) standing sharing) element method.Get [] k t h e = tt
+has_held place name (object.Input many (Some number) standing sharing) element method.Get (p ∷ []) k t h e = has_one uint_type p _ h.0 e (λ x. tt)
+has_held place name (object.Input many (Some number) standing sharing) element method.Get (p ∷ q ∷ rest) k t h e = absurd (too_many (length rest) (cond many 1 0) (at_most_one many) t)
+has_held place name (object.Input many (Some number) standing sharing) element method.Count [] k t h e = tt
+has_held place name (object.Input many None standing sharing) element method.Count [] k t h e = tt
+has_held place name (object.Input many record_type standing sharing) element method.Count (p ∷ rest) k t h e = absurd (some_for_none (length rest) t)
+has_held place name (object.Input many (Some number) standing sharing) element method.Finished [] k t h e = tt
+has_held place name (object.Input many None standing sharing) element method.Finished [] k t h e = tt
+has_held place name (object.Input many record_type standing sharing) element method.Finished (p ∷ rest) k t h e = absurd (some_for_none (length rest) t)
+has_held place name (object.Output output array (Some number)) element (method.Request group) [] k t h e = absurd (cc)
+has_held place name (object.Output output array (Some number)) element (method.Request group) (p ∷ []) k t h e = has_one uint_type p _ h.0 e (λ x. tt)
+has_held place name (object.Output output array (Some number)) element (method.Request group) (p ∷ q ∷ rest) k t h e = absurd (too_many (length rest) 1 (omega arith) t)
+has_held place name (object.Output output array None) element (method.Increment group) [] k t h e = absurd (cc)
+has_held place name (object.Output output array None) element (method.Increment group) (p ∷ []) k t h e = has_one uint_type p _ h.0 e (λ x. tt)
+has_held place name (object.Output output array None) element (method.Increment group) (p ∷ q ∷ rest) k t h e = absurd (too_many (length rest) 1 (omega arith) t)
+has_held place name (object.Output output array (Some number)) element method.IsValid [] k t h e = tt
+has_held place name (object.Output output array None) element method.IsValid [] k t h e = tt
+has_held place name (object.Output output array record_type) element method.IsValid (p ∷ rest) k t h e = absurd (some_for_none (length rest) t)
+has_held place name (object.Handle handle number) element method.Get [] k t h e = tt
+has_held place name (object.Handle handle number) element method.Get (p ∷ []) k t h e = has_one uint_type p _ h.0 e (λ x. tt)
+has_held place name (object.Handle handle number) element method.Get (p ∷ q ∷ rest) k t h e = absurd (past_one (length rest) t)
+has_held place name (object.Handle handle number) element method.Complete [] k t h e = tt
+has_held place name (object.Handle handle number) element method.Complete (p ∷ rest) k t h e = absurd (some_for_none (length rest) t)
+has_held place name o element m parts k t h e = absurd (cc)
 
-pub has_method : (place name : Place) (o : Object) (m : Method) (parts : List Part) (word : List ℕ) → method_of o word ≡ Some m → takes o m parts ≡ true → AllTyped parts → Empty (unfit_arguments m parts) → Empty (fixed_method parts (Some m)) → Has (method_value place name o m parts)
-has_method place name o m parts word q = has_held place name o m parts (method_in (holds_for o) (methods o) word m (all_hold o) q)
+pub has_method : (place name : Place) (o : Object) (element : Option TypedExpr) (m : Method) (parts : List Part) (word : List ℕ) → method_of o word ≡ Some m → takes o m parts ≡ true → AllTyped parts → Well (argument_sites m parts) → Has (method_value place name o element m parts)
+has_method place name o element m parts word q = has_held place name o element m parts (method_in (holds_for o) (methods o) word m (all_hold o) q)
 
 pub has_element : (place : Place) (o : Object) (i : TypedExpr) → has_elements o ≡ true → Has (element_value place o i)
 has_element place (object.Buffer buffer (buffer_type.Raw writable)) i e = absurd (cc)
@@ -152,8 +152,6 @@ has_element place (object.Input true (Some number) standing sharing) i e = tt
 has_element place (object.Input false (Some number) standing sharing) i e = absurd (cc)
 has_element place (object.Input true None standing sharing) i e = absurd (cc)
 has_element place (object.Input false None standing sharing) i e = absurd (cc)
-has_element place (object.Output output true record_type None) i e = tt
-has_element place (object.Output output true record_type (Some element)) i e = absurd (cc)
-has_element place (object.Output output false record_type None) i e = absurd (cc)
-has_element place (object.Output output false record_type (Some element)) i e = absurd (cc)
+has_element place (object.Output output true record_type) i e = tt
+has_element place (object.Output output false record_type) i e = absurd (cc)
 has_element place (object.Handle handle number) i e = tt

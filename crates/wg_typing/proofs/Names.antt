@@ -5,12 +5,13 @@ use Rattle.std.specs.Option.{option_or}
 use Rattle.std.specs.Str.{bytes_eq}
 use Rattle.wg_words.specs.declared.place.Place.{Place}
 use Rattle.wg_typing.specs.Conversions.{is_number}
-use Rattle.wg_typing.specs.Maybe.{and_then, where_true}
+use Rattle.wg_words.specs.Maybe.{◌>>=◌}
+use Rattle.wg_typing.specs.Maybe.{where_true}
 use Rattle.wg_typing.specs.RulesMismatchExpr.{unfit_name}
 use Rattle.wg_typing.specs.RulesUnknownName.{is_no_value, unknown_value, is_no_struct, unknown_type}
-use Rattle.wg_typing.specs.Scope.{Context, Around, in_entry, in_plain, in_const, in_attribute, look, struct_if, named_type}
+use Rattle.wg_typing.specs.Scope.{Context, look, struct_if, named_type}
 use Rattle.wg_typing.specs.Sites.{at_if}
-use Rattle.wg_typing.specs.TypingCallee.{CalledName, plain, entry, itself, builtin, broken, unknown, Builtin, builtin_if, callee_of, callee}
+use Rattle.wg_typing.specs.TypingCallee.{builtin_if, callee_of, callee}
 use Rattle.wg_typing.specs.TypingName.{name_value, const_name, named_value}
 use Rattle.wg_typing.specs.TypingOperators.{zeros_value}
 use Rattle.wg_tree.specs.declared.expr.Named.{Named}
@@ -20,6 +21,11 @@ use Rattle.wg_typing.specs.declared.scope.Declared.{Declared}
 use Rattle.wg_typing.specs.declared.scope.Meant.{Meant}
 use Rattle.wg_typing.specs.declared.scope.Meant.TheVariants as meant
 use Rattle.wg_typing.proofs.Facts.{Empty, Has}
+use Rattle.wg_typing.specs.declared.context.Around.{Around}
+use Rattle.wg_typing.specs.declared.called.CalledName.{CalledName}
+use Rattle.wg_typing.specs.declared.called.Builtin.{Builtin}
+use Rattle.wg_typing.specs.declared.context.Around.TheVariants as surrounding
+use Rattle.wg_typing.specs.declared.called.CalledName.TheVariants as called_name
 
 -- ---- names that stand
 
@@ -29,8 +35,7 @@ Stands (meant.Struct number) = Unit {0}
 Stands (meant.Constant of words None) = Unit {0}
 Stands (meant.Constant of words (Some v)) = is_number of ≡ true
 Stands (meant.Shared variable of) = Unit {0}
-Stands (meant.Local local of constant) = Unit {0}
-Stands (meant.Parameter parameter of) = Unit {0}
+Stands (meant.Variable variable of constant) = Unit {0}
 Stands (meant.Object object) = Unit {0}
 Stands (meant.Function number is_entry result parameters chain) = Unit {0}
 Stands meant.Itself = Unit {0}
@@ -62,10 +67,10 @@ stand_push (x ∷ names) d h k = (h.0, stand_push names d h.1 k)
 
 -- no name may stand without a value
 abbrev pub NoneAllowed : Around → Type 0
-NoneAllowed (in_entry lanes) = Unit {0}
-NoneAllowed in_plain = Unit {0}
-NoneAllowed in_const = Unit {0}
-NoneAllowed (in_attribute allowed) = ⊥
+NoneAllowed (surrounding.Entry lanes) = Unit {0}
+NoneAllowed surrounding.Plain = Unit {0}
+NoneAllowed surrounding.Const = Unit {0}
+NoneAllowed (surrounding.Attribute allowed) = ⊥
 
 -- ---- values
 
@@ -74,31 +79,29 @@ has_value place None s h = absurd h
 has_value place (Some (meant.Struct number)) s h = absurd h
 has_value place (Some (meant.Constant of words known)) s h = tt
 has_value place (Some (meant.Shared variable of)) s h = tt
-has_value place (Some (meant.Local local of constant)) s h = tt
-has_value place (Some (meant.Parameter parameter of)) s h = tt
+has_value place (Some (meant.Variable variable of constant)) s h = tt
 has_value place (Some (meant.Object object)) s h = tt
 has_value place (Some (meant.Function number is_entry result parameters chain)) s h = absurd h
 has_value place (Some meant.Itself) s h = absurd h
 has_value place (Some meant.Broken) s h = absurd s
 
-has_constant : (name : Named) (m : Option Meant) → StandsIf m → Empty (at_if (unknown_value in_const name.name m) name.place) → Empty (unfit_name in_const name m) → Has (const_name name.place m)
+has_constant : (name : Named) (m : Option Meant) → StandsIf m → Empty (at_if (unknown_value surrounding.Const name.name m) name.place) → Empty (unfit_name surrounding.Const name m) → Has (const_name name.place m)
 has_constant name None s h k = absurd h
 has_constant name (Some (meant.Struct number)) s h k = absurd h
 has_constant name (Some (meant.Constant of words None)) s h k = absurd k
 has_constant name (Some (meant.Constant of words (Some v))) s h k = tt
 has_constant name (Some (meant.Shared variable of)) s h k = absurd h
-has_constant name (Some (meant.Local local of constant)) s h k = absurd h
-has_constant name (Some (meant.Parameter parameter of)) s h k = absurd h
+has_constant name (Some (meant.Variable variable of constant)) s h k = absurd h
 has_constant name (Some (meant.Object object)) s h k = absurd h
 has_constant name (Some (meant.Function number is_entry result parameters chain)) s h k = absurd h
 has_constant name (Some meant.Itself) s h k = absurd h
 has_constant name (Some meant.Broken) s h k = absurd s
 
 pub has_named : (around : Around) (name : Named) (m : Option Meant) → NoneAllowed around → StandsIf m → Empty (at_if (unknown_value around name.name m) name.place) → Empty (unfit_name around name m) → Has (named_value around name m)
-has_named (in_entry lanes) name m a s h k = has_value name.place m s h
-has_named in_plain name m a s h k = has_value name.place m s h
-has_named in_const name m a s h k = has_constant name m s h k
-has_named (in_attribute allowed) name m a s h k = absurd a
+has_named (surrounding.Entry lanes) name m a s h k = has_value name.place m s h
+has_named surrounding.Plain name m a s h k = has_value name.place m s h
+has_named surrounding.Const name m a s h k = has_constant name m s h k
+has_named (surrounding.Attribute allowed) name m a s h k = absurd a
 
 -- ---- types
 
@@ -107,8 +110,7 @@ has_struct p None s h = absurd h
 has_struct p (Some (meant.Struct number)) s h = tt
 has_struct p (Some (meant.Constant of words known)) s h = absurd h
 has_struct p (Some (meant.Shared variable of)) s h = absurd h
-has_struct p (Some (meant.Local local of constant)) s h = absurd h
-has_struct p (Some (meant.Parameter parameter of)) s h = absurd h
+has_struct p (Some (meant.Variable variable of constant)) s h = absurd h
 has_struct p (Some (meant.Object object)) s h = absurd h
 has_struct p (Some (meant.Function number is_entry result parameters chain)) s h = absurd h
 has_struct p (Some meant.Itself) s h = absurd h
@@ -119,8 +121,7 @@ zeros_of p None h = absurd h
 zeros_of p (Some (meant.Struct number)) h = tt
 zeros_of p (Some (meant.Constant of words known)) h = absurd h
 zeros_of p (Some (meant.Shared variable of)) h = absurd h
-zeros_of p (Some (meant.Local local of constant)) h = absurd h
-zeros_of p (Some (meant.Parameter parameter of)) h = absurd h
+zeros_of p (Some (meant.Variable variable of constant)) h = absurd h
 zeros_of p (Some (meant.Object object)) h = absurd h
 zeros_of p (Some (meant.Function number is_entry result parameters chain)) h = absurd h
 zeros_of p (Some meant.Itself) h = absurd h
@@ -136,12 +137,12 @@ has_type c (type_name.Struct name) s h = has_struct name.place (look name.name c
 -- ---- called names
 
 abbrev pub Called : CalledName → Type 0
-Called (plain number result parameters chain) = Unit {0}
-Called entry = Unit {0}
-Called itself = Unit {0}
-Called (builtin b) = Unit {0}
-Called broken = ⊥
-Called unknown = Unit {0}
+Called (called_name.Plain number result parameters chain) = Unit {0}
+Called called_name.Entry = Unit {0}
+Called called_name.Itself = Unit {0}
+Called (called_name.Builtin b) = Unit {0}
+Called called_name.Broken = ⊥
+Called called_name.Unknown = Unit {0}
 
 builtin_called : (b : Option Builtin) → Called (builtin_if b)
 builtin_called None = tt
@@ -152,8 +153,7 @@ callee_called None b s = builtin_called b
 callee_called (Some (meant.Struct number)) b s = tt
 callee_called (Some (meant.Constant of words known)) b s = tt
 callee_called (Some (meant.Shared variable of)) b s = tt
-callee_called (Some (meant.Local local of constant)) b s = tt
-callee_called (Some (meant.Parameter parameter of)) b s = tt
+callee_called (Some (meant.Variable variable of constant)) b s = tt
 callee_called (Some (meant.Object object)) b s = tt
 callee_called (Some (meant.Function number true result parameters chain)) b s = tt
 callee_called (Some (meant.Function number false result parameters chain)) b s = tt
@@ -165,7 +165,7 @@ is_called c name s = callee_called (look name.name c.names) _ (look_stands name.
 
 -- ---- what becomes a name's meaning
 
-pub then_stands : {A : Type 0} (o : Option A) (f : A → Option Meant) → ((a : A) → StandsIf (f a)) → StandsIf (and_then o f)
+pub then_stands : {A : Type 0} (o : Option A) (f : A → Option Meant) → ((a : A) → StandsIf (f a)) → StandsIf (◌>>=◌ o f)
 then_stands None f k = tt
 then_stands (Some a) f k = k a
 

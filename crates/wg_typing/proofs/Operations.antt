@@ -1,15 +1,13 @@
 -- Operators on parts that have types.
-use Rattle.std.proofs.Common.{◌≡◌, Bool, true, false, not, cond, List, [], ◌∷◌, ◌++◌, Option, Some, refl, sym, ◌∙◌, subst}
+use Rattle.std.proofs.Common.{◌≡◌, Bool, true, false, not, cond, List, [], ◌∷◌, ◌++◌, Option, Some, refl, sym, ◌∙◌, subst, map}
 use Rattle.std.specs.Prelude.{◌&&◌, is_none}
 use Rattle.wg_words.specs.declared.place.Place.{Place}
-use Rattle.wg_typing.specs.Conversions.{Numbers, numbers, type_of, size_fits, fits, is_number, truth_type, common_numbers, class_of, suits, Operation, operation_on}
-use Rattle.wg_typing.specs.Layers.{LinkLayer, Part, TypedPart, typed_part, convert, fit}
-use Rattle.wg_typing.specs.Maybe.{and_then, where_true}
-use Rattle.wg_typing.specs.RulesMismatchExpr.{clash, clash_on, clash_if, unfit_link, choice_of, unfit_results, unfit_choice}
-use Rattle.wg_typing.specs.RulesShared.{links_parts, failing, unfit}
+use Rattle.wg_typing.specs.Conversions.{numbers, type_of, size_fits, fits, is_number, truth_type, common_numbers, class_of, suits, operation_on}
+use Rattle.wg_typing.specs.Layers.{typed_part, convert, fit, map_link}
+use Rattle.wg_words.specs.Maybe.{◌>>=◌}
+use Rattle.wg_typing.specs.Maybe.{where_true}
+use Rattle.wg_typing.specs.RulesMismatchExpr.{clash, clash_on, choice_of, unfit_results}
 use Rattle.wg_typing.specs.Sites.{at_if}
-use Rattle.wg_typing.specs.Typing.{Mismatch}
-use Rattle.wg_typing.specs.TypingExpr.{links_at}
 use Rattle.wg_typing.proofs.Sites.{Well, well_left, well_right, well_only}
 use Rattle.wg_typing.specs.TypingOperators.{prefix_type, prefix_value, cast_value, choice_value, suited, run_on, run_type, chain_links, chain_type, chain_value, typed_of}
 use Rattle.wg_tree.specs.declared.expr.BinaryOperator.{BinaryOperator}
@@ -17,8 +15,18 @@ use Rattle.wg_tree.specs.declared.expr.PrefixOperator.{PrefixOperator}
 use Rattle.wg_tree.specs.declared.expr.PrefixOperator.TheVariants as prefix
 use Rattle.wg_typed.specs.declared.types.TypeTree.{TypeTree}
 use Rattle.wg_typing.proofs.Facts.{Empty, Has, both, has_is_none, has_then, has_where, is_false, some_of, through_where}
-use Rattle.wg_typing.proofs.Parts.{AllTyped, IsTyped, has_convert, has_fit, passes_test}
+use Rattle.wg_typing.proofs.Parts.{IsTyped, has_convert, has_fit, holds, site_is, goal_fits}
 use Rattle.wg_typing.proofs.Types.{chosen_fits, fits_sized, has_numbers, operation_on_fits, size_same}
+use Rattle.wg_typing.specs.declared.numbers.Numbers.{Numbers}
+use Rattle.wg_typing.specs.declared.numbers.Operation.{Operation}
+use Rattle.wg_typing.specs.declared.part.LinkLayer.{LinkLayer}
+use Rattle.wg_typing.specs.declared.part.Part.{Part}
+use Rattle.wg_typing.specs.declared.part.TypedPart.{TypedPart}
+use Rattle.wg_typing.specs.declared.fault.TypingRule.TheVariants.{Mismatch}
+use Rattle.wg_typing.specs.PartSites.{part_site, goal_site, results_site, link_site}
+use Rattle.wg_typing.specs.Site.{AtNumber}
+use Rattle.wg_typing.specs.TypingExpr.{ExprForm, part_of, links_sites}
+use Rattle.wg_typing.specs.declared.context.Around.{Around}
 
 -- ---- prefix operators and casts
 
@@ -28,14 +36,14 @@ prefix_size prefix.Plus n = size_same n
 prefix_size prefix.Not n = size_same n
 prefix_size prefix.Complement n = size_same n
 
-pub has_prefix : (place : Place) (operator : PrefixOperator) (p : Part) → IsTyped p → Empty (failing (λ t. is_number t.of) (typed_part p)) → Has (prefix_value place operator p)
+pub has_prefix : (place : Place) (operator : PrefixOperator) (p : Part) → IsTyped p → Well (part_site AtNumber p) → Has (prefix_value place operator p)
 has_prefix place operator p h e = has_then (typed_part p) _ h (λ t q.
-    has_then (numbers t.of) _ (has_numbers t.of (passes_test (λ t. is_number t.of) (typed_part p) t q e)) (λ n r.
+    has_then (numbers t.of) _ (has_numbers t.of (holds (is_number t.of) t.place ((site_is AtNumber (typed_part p) t q e).clear Mismatch))) (λ n r.
     has_then (convert (type_of (prefix_type operator n)) t) _ (has_convert (type_of (prefix_type operator n)) t (fits_sized t.of n (prefix_type operator n) r (prefix_size operator n))) (λ a s. tt)))
 
-pub has_cast : (place : Place) (goal : TypeTree) (p : Part) → IsTyped p → Empty (unfit goal p) → Has (cast_value place goal p)
+pub has_cast : (place : Place) (goal : TypeTree) (p : Part) → IsTyped p → Well (goal_site goal p) → Has (cast_value place goal p)
 has_cast place goal p h e = has_then (typed_part p) _ h (λ t q.
-    has_then (where_true (fits t.of goal) t.tree) _ (has_where (fits t.of goal) t.tree (passes_test (λ t. fits t.of goal) (typed_part p) t q e)) (λ a r. tt))
+    has_then (where_true (fits t.of goal) t.tree) _ (has_where (fits t.of goal) t.tree (goal_fits goal p t q e)) (λ a r. tt))
 
 -- ---- `?:`
 
@@ -53,9 +61,9 @@ results whole a b h = by_tests (is_number a.of) (is_number b.of) refl refl h
     by_tests false true e f h = absurd h
     by_tests false false e f h = absurd h
 
-pub has_choice : (place : Place) (test a b : Part) → IsTyped test → IsTyped a → IsTyped b → Empty (unfit truth_type test) → Empty (unfit_choice place (typed_part a) (typed_part b)) → Has (choice_value place test a b)
+pub has_choice : (place : Place) (test a b : Part) → IsTyped test → IsTyped a → IsTyped b → Well (goal_site truth_type test) → Well (results_site place (typed_part a) (typed_part b)) → Has (choice_value place test a b)
 has_choice place test a b h k l e f = has_then (fit truth_type test) _ (has_fit truth_type test h e) (λ x q. has_then (typed_part a) _ k (λ s r. has_then (typed_part b) _ l (λ t u.
-    let g = results place s t (subst (λ z. Empty (unfit_choice place (Some s) z)) u (subst (λ z. Empty (unfit_choice place z (typed_part b))) r f)) in
+    let g = results place s t ((well_only (subst (λ z. Well (results_site place (Some s) z)) u (subst (λ z. Well (results_site place z (typed_part b))) r f))).clear Mismatch) in
     has_then (numbers s.of) _ (has_numbers s.of g.first) (λ m v. has_then (numbers t.of) _ (has_numbers t.of g.second) (λ n w.
     has_then (common_numbers m n) _ (chosen_has s t m n v w g.together) (λ c y.
     let d = chosen_fits m n c y in
@@ -98,7 +106,7 @@ record Runs (of : TypeTree) (l : LinkLayer Part) : Type 0 where
   pub link : Has (run_on of l)
   pub after : Has (run_type of l)
 
-runs : (whole : Place) (of : TypeTree) (l : LinkLayer Part) → IsTyped l.operand → Empty (unfit_link whole of l) → Runs of l
+runs : (whole : Place) (of : TypeTree) (l : LinkLayer Part) → IsTyped l.operand → Well (link_site whole (Some of) l.operator (typed_part l.operand)) → Runs of l
 runs whole of l h e = record {
   link = has_then (typed_part l.operand) _ h (λ t q.
       has_then (suited l.operator of t.of) _ (has_suited l.operator of t.of (fitting t q)) (λ o r.
@@ -107,24 +115,29 @@ runs whole of l h e = record {
 }
   where
     fitting : (t : TypedPart) → typed_part l.operand ≡ Some t → Together l.operator of t.of
-    fitting t q = together whole l.operator whole of t (subst (λ x. Empty (clash_if whole l.operator of x)) q e)
+    fitting t q = together whole l.operator whole of t ((well_only (subst (λ x. Well (link_site whole (Some of) l.operator x)) q e)).clear Mismatch)
 
 record Chained (of : Option TypeTree) (rest : List (LinkLayer Part)) : Type 0 where
   pub links : Has (chain_links of rest)
   pub last : Has (chain_type of rest)
 
-chained : (whole : Place) (of : TypeTree) (rest : List (LinkLayer Part)) → AllTyped (links_parts rest) → Well (links_at whole (Some of) rest) → Chained (Some of) rest
-chained whole of [] h e = record { links = tt; last = tt }
-chained whole of (l ∷ rest) h e =
-    let r = runs whole of l h.0 ((well_only (well_left e)).clear Mismatch) in
-    let next = some_of (run_type of l) r.after in
-    let c = chained whole next.0 rest h.1 (subst (λ x. Well (links_at whole x rest)) next.1 (well_right e)) in
+-- the operands have types
+abbrev pub LinksTyped : List (LinkLayer ExprForm) → Type 0
+LinksTyped [] = Unit {0}
+LinksTyped (l ∷ rest) = IsTyped l.operand.part × LinksTyped rest
+
+chained : (around : Around) (whole : Place) (of : TypeTree) (rest : List (LinkLayer ExprForm)) → LinksTyped rest → Well (links_sites around whole (Some of) rest) → Chained (Some of) (map (map_link part_of) rest)
+chained around whole of [] h w = record { links = tt; last = tt }
+chained around whole of (l ∷ rest) h w =
+    let r = runs whole of (map_link part_of l) h.0 (well_left (well_right w)) in
+    let next = some_of (run_type of (map_link part_of l)) r.after in
+    let c = chained around whole next.0 rest h.1 (subst (λ x. Well (links_sites around whole x rest)) next.1 (well_right (well_right w))) in
     record {
-      links = has_then (run_on of l) _ r.link (λ a q. has_then (chain_links (run_type of l) rest) _ (subst (λ x. Has (chain_links x rest)) (sym next.1) c.links) (λ b s. tt));
-      last = subst (λ x. Has (chain_type x rest)) (sym next.1) c.last;
+      links = has_then (run_on of (map_link part_of l)) _ r.link (λ a q. has_then (chain_links (run_type of (map_link part_of l)) (map (map_link part_of) rest)) _ (subst (λ x. Has (chain_links x (map (map_link part_of) rest))) (sym next.1) c.links) (λ b s. tt));
+      last = subst (λ x. Has (chain_type x (map (map_link part_of) rest))) (sym next.1) c.last;
     }
 
-pub has_chain : (place : Place) (first : Part) (rest : List (LinkLayer Part)) → IsTyped first → AllTyped (links_parts rest) → Well (links_at place (typed_of first) rest) → Has (chain_value place first rest)
-has_chain place first rest h k e = has_then (typed_part first) _ h (λ t q.
-    let c = chained place t.of rest k (subst (λ x. Well (links_at place (and_then x (λ t. Some t.of)) rest)) q e) in
-    has_then (chain_links (Some t.of) rest) _ c.links (λ a r. has_then (chain_type (Some t.of) rest) _ c.last (λ b s. tt)))
+pub has_chain : (around : Around) (place : Place) (first : Part) (rest : List (LinkLayer ExprForm)) → IsTyped first → LinksTyped rest → Well (links_sites around place (typed_of first) rest) → Has (chain_value place first (map (map_link part_of) rest))
+has_chain around place first rest h k w = has_then (typed_part first) _ h (λ t q.
+    let c = chained around place t.of rest k (subst (λ x. Well (links_sites around place (◌>>=◌ x (λ t. Some t.of)) rest)) q w) in
+    has_then (chain_links (Some t.of) (map (map_link part_of) rest)) _ c.links (λ a r. has_then (chain_type (Some t.of) (map (map_link part_of) rest)) _ c.last (λ b s. tt)))

@@ -1,15 +1,23 @@
 -- Parts of an expression that have values, and parts that have types.
-use Rattle.std.proofs.Common.{◌≡◌, Bool, true, false, not, List, [], ◌∷◌, ◌++◌, length, Option, Some, None, refl, subst, arith}
+use Rattle.std.proofs.Common.{◌≡◌, Bool, true, false, not, List, [], ◌∷◌, ◌++◌, Option, Some, None, refl, subst, cond}
 use Rattle.wg_words.specs.declared.place.Place.{Place}
 use Rattle.wg_typing.specs.Conversions.{fits}
-use Rattle.wg_typing.specs.Layers.{Part, TypedPart, typed_at, typed_part, all_typed_parts, convert, fit, fit_all, call_of}
-use Rattle.wg_typing.specs.RulesShared.{is_typed, all_are_typed, where_typed, no_value_at, no_value, each_part, failing, unfit, unfit_all}
+use Rattle.wg_typing.specs.Layers.{typed_at, typed_part, all_typed_parts, convert, fit, call_of}
+use Rattle.wg_typing.specs.RulesShared.{no_value_at, no_value}
 use Rattle.wg_typed.specs.declared.types.TypeTree.{TypeTree}
 use Rattle.wg_typing.specs.declared.scope.Act.TheVariants as act
 use Rattle.wg_typing.specs.declared.scope.Value.{Value}
 use Rattle.wg_typing.specs.declared.scope.Value.TheVariants as value
-use Rattle.wg_typing.proofs.Facts.{Empty, Has, both, empty_if, empty_left, empty_right, has_then, has_where, is_false, is_some_has, not_false}
-use Rattle.wg_typing.specs.TypingActs.{called_at, is_output, is_sync, call_in, NamedCall}
+use Rattle.wg_typing.proofs.Facts.{Empty, Has, both, has_then, has_where, is_false, is_some_has, not_false}
+use Rattle.wg_typing.specs.TypingActs.{called_at, is_output, is_sync, call_in}
+use Rattle.wg_typing.specs.declared.part.Part.{Part}
+use Rattle.wg_typing.specs.declared.part.TypedPart.{TypedPart}
+use Rattle.wg_typing.specs.declared.part.NamedCall.{NamedCall}
+use Rattle.wg_typing.specs.PartSites.{all_are_typed, where_typed, is_typed, site_if, goal_site}
+use Rattle.wg_typing.specs.Site.{Site, AtGoal}
+use Rattle.wg_typing.specs.Sites.{Sites, nowhere, at_if}
+use Rattle.wg_typing.proofs.Sites.{Clear, Well, well_only}
+use Rattle.wg_typing.specs.declared.fault.TypingRule.TheVariants.{Mismatch}
 
 -- ---- parts that have values
 
@@ -37,7 +45,7 @@ AllTyped (p ∷ rest) = IsTyped p × AllTyped rest
 value_typed : (p : Place) (v : Option Value) (k : Option NamedCall) → Has v → Empty (no_value_at p v) → Empty (called_at is_output (call_in v k)) → Empty (called_at is_sync (call_in v k)) → Has (typed_at p v)
 value_typed p None k h n o s = absurd h
 value_typed p (Some (value.Typed of standing tree)) k h n o s = tt
-value_typed p (Some (value.Object object)) k h n o s = absurd n
+value_typed p (Some (value.Object object element)) k h n o s = absurd n
 value_typed p (Some (value.Text bytes)) k h n o s = absurd n
 value_typed p (Some (value.Act name (act.Step step))) k h n o s = absurd n
 value_typed p (Some (value.Act name (act.Barrier true))) k h n o s = absurd s
@@ -50,20 +58,25 @@ value_typed p (Some (value.Act name (act.Finished tracked))) k h n o s = absurd 
 pub part_typed : (p : Part) → Whole p → Empty (no_value p) → Empty (called_at is_output (call_of p)) → Empty (called_at is_sync (call_of p)) → IsTyped p
 part_typed p = value_typed p.place p.value p.by_name
 
-pub all_typed : (parts : List Part) → AllWhole parts → Empty (each_part no_value parts) → Empty (each_part (λ p. called_at is_output (call_of p)) parts) → Empty (each_part (λ p. called_at is_sync (call_of p)) parts) → AllTyped parts
-all_typed [] h n o s = tt
-all_typed (p ∷ rest) h n o s = (
-  part_typed p h.0 (empty_left (no_value p) _ n) (empty_left (called_at is_output (call_of p)) _ o) (empty_left (called_at is_sync (call_of p)) _ s),
-  all_typed rest h.1 (empty_right (no_value p) _ n) (empty_right (called_at is_output (call_of p)) _ o) (empty_right (called_at is_sync (call_of p)) _ s),
-)
-
 are_typed : (parts : List Part) → AllTyped parts → all_are_typed parts ≡ true
 are_typed [] h = refl
 are_typed (p ∷ rest) h = both (is_typed p) _ (is_some_has (typed_part p) h.0) (are_typed rest h.1)
 
--- what a rule says of parts that have types
-pub said : (parts : List Part) (xs : List Place) → AllTyped parts → Empty (where_typed parts xs) → Empty xs
-said parts xs h = empty_if (all_are_typed parts) xs (are_typed parts h)
+pub well_if : (b : Bool) (sites : Sites Site) → b ≡ true → Well (cond b sites nowhere) → Well sites
+well_if true sites e w = w
+well_if false sites e w = absurd (cc)
+
+-- what is looked at where all parts have types
+pub said : (parts : List Part) (sites : Sites Site) → AllTyped parts → Well (where_typed parts sites) → Well sites
+said parts sites h = well_if (all_are_typed parts) sites (are_typed parts h)
+
+-- a test that is looked at
+pub holds : (b : Bool) (p : Place) → Empty (at_if (not b) p) → b ≡ true
+holds b p h = not_false b (is_false (not b) p h)
+
+-- what is looked at where a part has a type
+pub site_is : (at : TypedPart → Site) (o : Option TypedPart) (t : TypedPart) → o ≡ Some t → Well (site_if at o) → Clear (at t)
+site_is at o t e w = well_only (subst (λ o. Well (site_if at o)) e w)
 
 pub has_all_parts : (parts : List Part) → AllTyped parts → Has (all_typed_parts parts)
 has_all_parts [] h = tt
@@ -74,16 +87,8 @@ has_all_parts (p ∷ rest) h = has_then (typed_part p) _ h.0 (λ t e. has_then (
 pub has_convert : (goal : TypeTree) (t : TypedPart) → fits t.of goal ≡ true → Has (convert goal t)
 has_convert goal t e = has_where (fits t.of goal) _ e
 
-pub passes_test : (test : TypedPart → Bool) (o : Option TypedPart) (t : TypedPart) → o ≡ Some t → Empty (failing test o) → test t ≡ true
-passes_test test o t e h = not_false (test t) (is_false (not (test t)) t.place (subst (λ o. Empty (failing test o)) e h))
+pub goal_fits : (goal : TypeTree) (p : Part) (t : TypedPart) → typed_part p ≡ Some t → Well (goal_site goal p) → fits t.of goal ≡ true
+goal_fits goal p t e w = holds (fits t.of goal) t.place ((site_is (AtGoal goal) (typed_part p) t e w).clear Mismatch)
 
-pub has_fit : (goal : TypeTree) (p : Part) → IsTyped p → Empty (unfit goal p) → Has (fit goal p)
-has_fit goal p h e = has_then (typed_part p) _ h (λ t q. has_convert goal t (passes_test (λ t. fits t.of goal) (typed_part p) t q e))
-
--- as many parts as types
-pub has_fit_all : (types : List TypeTree) (parts : List Part) → length types ≡ length parts → AllTyped parts → Empty (unfit_all types parts) → Has (fit_all types parts)
-has_fit_all [] [] l h e = tt
-has_fit_all [] (p ∷ parts) l h e = absurd (omega (arith, l))
-has_fit_all (t ∷ types) [] l h e = absurd (omega (arith, l))
-has_fit_all (t ∷ types) (p ∷ parts) l h e =
-    has_then (fit t p) _ (has_fit t p h.0 (empty_left (unfit t p) _ e)) (λ a q. has_then (fit_all types parts) _ (has_fit_all types parts (omega (arith, l)) h.1 (empty_right (unfit t p) _ e)) (λ b r. tt))
+pub has_fit : (goal : TypeTree) (p : Part) → IsTyped p → Well (goal_site goal p) → Has (fit goal p)
+has_fit goal p h w = has_then (typed_part p) _ h (λ t e. has_convert goal t (goal_fits goal p t e w))

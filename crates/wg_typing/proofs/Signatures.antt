@@ -1,25 +1,30 @@
 -- Intrinsics and constructors on parts that have types.
-use Rattle.std.proofs.Common.{◌≡◌, ℕ, suc, Bool, true, false, List, [], ◌∷◌, ◌++◌, length, map, Option, Some, refl, sym, ap, ◌∙◌, subst, None}
+use Rattle.std.proofs.Common.{◌≡◌, ℕ, suc, Bool, true, false, List, [], ◌∷◌, length, map, Option, Some, refl, sym, ap, ◌∙◌, subst, None}
 use Rattle.std.specs.Prelude.{◌&&◌, ◌==◌}
 use Rattle.wg_words.specs.declared.place.Place.{Place}
-use Rattle.wg_typing.specs.Conversions.{Numbers, numbers, type_of, size_fits, fits, is_number, truths, of_value_type, chosen_scalar, size_of}
-use Rattle.wg_typing.specs.Layers.{Part, TypedPart, typed_part, all_typed_parts, convert, fixed}
-use Rattle.wg_typing.specs.Maybe.{and_then, where_true}
-use Rattle.wg_typing.specs.RulesWrongArity.{other_count, miscounted_components}
-use Rattle.wg_typing.specs.RulesMismatchCall.{unfit_together, unfit_intrinsic}
-use Rattle.wg_typing.specs.RulesShared.{failing, each_failing}
-use Rattle.wg_typing.specs.Sites.{at_if}
+use Rattle.wg_typing.specs.Conversions.{numbers, type_of, size_fits, fits, is_number, truths, of_value_type, chosen_scalar, size_of}
+use Rattle.wg_typing.specs.Layers.{typed_part, all_typed_parts, convert, fixed}
+use Rattle.wg_words.specs.Maybe.{◌>>=◌}
+use Rattle.wg_typing.specs.Maybe.{where_true}
 use Rattle.wg_typing.specs.TypingConstructor.{component_count, components, constructed, makes, all_make}
-use Rattle.wg_typing.specs.TypingIntrinsic.{Reckons, in_common, in_uint, to_one_truth, in_truths, choosing, reckons, arity_of, argument_suits, all_suit, size_of_all, Signature, chosen_of_size, signature, signature_on, all_numbers, convert_all, intrinsic_value, all_fit_size, joined_size_of}
+use Rattle.wg_typing.specs.TypingIntrinsic.{Reckons, in_common, in_uint, to_one_truth, in_truths, choosing, reckons, arity_of, argument_suits, all_suit, size_of_all, chosen_of_size, signature, signature_on, all_numbers, convert_all, intrinsic_value, all_fit_size, joined_size_of}
 use Rattle.wg_tree.specs.declared.expr.ValueType.{ValueType}
 use Rattle.wg_tree.specs.declared.expr.ValueType.TheVariants as value_type
 use Rattle.wg_typed.specs.declared.typed_expr.Intrinsic.{Intrinsic}
 use Rattle.wg_typed.specs.declared.typed_expr.TypedKind.TheVariants as tree
-use Rattle.wg_typing.proofs.Facts.{Empty, Has, both, empty_if, empty_left, empty_right, has_is_none, has_then, has_through, is_false, not_false, some_value, then_some, through_where, and_left, and_right, where_same, where_passes}
-use Rattle.wg_typing.proofs.Parts.{AllTyped, has_all_parts, has_convert, passes_test}
+use Rattle.wg_typing.proofs.Facts.{Has, both, has_is_none, has_then, has_through, is_false, some_value, then_some, through_where, and_left, and_right, where_same, where_passes}
+use Rattle.wg_typing.proofs.Parts.{AllTyped, has_all_parts, has_convert, holds, site_is}
 use Rattle.wg_typing.proofs.Types.{fits_sized, has_numbers, size_same}
 use Rattle.wg_typed.specs.declared.types.TypeTree.{TypeTree}
 use Rattle.wg_typed.specs.declared.types.TypeTree.TheVariants as type
+use Rattle.wg_typing.specs.declared.numbers.Numbers.{Numbers}
+use Rattle.wg_typing.specs.declared.part.Part.{Part}
+use Rattle.wg_typing.specs.declared.part.TypedPart.{TypedPart}
+use Rattle.wg_typing.specs.declared.numbers.Signature.{Signature}
+use Rattle.wg_typing.specs.PartSites.{each_site, together_site, intrinsic_sites, components_site}
+use Rattle.wg_typing.specs.Site.{Site, AtSuited, AtComponent}
+use Rattle.wg_typing.proofs.Sites.{Clear, Well, well_left, well_only, well_right}
+use Rattle.wg_typing.specs.declared.fault.TypingRule.TheVariants.{Mismatch, WrongArity}
 
 -- ---- parts, their types and their numbers, in step
 
@@ -43,27 +48,24 @@ shown_length [] (t ∷ ts) h = absurd h
 shown_length (p ∷ parts) [] h = absurd h
 shown_length (p ∷ parts) (t ∷ ts) h = ap suc (shown_length parts ts h.1)
 
-shown_suit : (r : Reckons) (parts : List Part) (ts : List TypedPart) → Shown parts ts → Empty (each_failing (λ t. argument_suits r t.of) parts) → all_suit r ts ≡ true
-shown_suit r [] [] h e = refl
-shown_suit r [] (t ∷ ts) h e = absurd h
-shown_suit r (p ∷ parts) [] h e = absurd h
-shown_suit r (p ∷ parts) (t ∷ ts) h e = both (argument_suits r t.of) _
-    (passes_test (λ t. argument_suits r t.of) (typed_part p) t h.0 (empty_left (failing (λ t. argument_suits r t.of) (typed_part p)) _ e))
-    (shown_suit r parts ts h.1 (empty_right (failing (λ t. argument_suits r t.of) (typed_part p)) _ e))
+shown_suit : (r : Reckons) (parts : List Part) (ts : List TypedPart) → Shown parts ts → Well (each_site (AtSuited r) parts) → all_suit r ts ≡ true
+shown_suit r [] [] h w = refl
+shown_suit r [] (t ∷ ts) h w = absurd h
+shown_suit r (p ∷ parts) [] h w = absurd h
+shown_suit r (p ∷ parts) (t ∷ ts) h w = both (argument_suits r t.of) _
+    (holds (argument_suits r t.of) t.place ((site_is (AtSuited r) (typed_part p) t h.0 (well_left w)).clear Mismatch))
+    (shown_suit r parts ts h.1 (well_right w))
 
 -- all are numbers
 abbrev AllNumbers : List TypedPart → Type 0
 AllNumbers [] = Unit {0}
 AllNumbers (t ∷ ts) = (is_number t.of ≡ true) × AllNumbers ts
 
-shown_numbers : (test : TypedPart → Bool) (parts : List Part) (ts : List TypedPart) → ((t : TypedPart) → test t ≡ true → is_number t.of ≡ true) → Shown parts ts → Empty (each_failing test parts) → AllNumbers ts
-shown_numbers test [] [] k h e = tt
-shown_numbers test [] (t ∷ ts) k h e = absurd h
-shown_numbers test (p ∷ parts) [] k h e = absurd h
-shown_numbers test (p ∷ parts) (t ∷ ts) k h e = (
-  k t (passes_test test (typed_part p) t h.0 (empty_left (failing test (typed_part p)) _ e)),
-  shown_numbers test parts ts k h.1 (empty_right (failing test (typed_part p)) _ e),
-)
+shown_numbers : (at : TypedPart → Site) (parts : List Part) (ts : List TypedPart) → ((t : TypedPart) → Clear (at t) → is_number t.of ≡ true) → Shown parts ts → Well (each_site at parts) → AllNumbers ts
+shown_numbers at [] [] k h w = tt
+shown_numbers at [] (t ∷ ts) k h w = absurd h
+shown_numbers at (p ∷ parts) [] k h w = absurd h
+shown_numbers at (p ∷ parts) (t ∷ ts) k h w = (k t (site_is at (typed_part p) t h.0 (well_left w)), shown_numbers at parts ts k h.1 (well_right w))
 
 has_all_numbers : (ts : List TypedPart) → AllNumbers ts → Has (all_numbers ts)
 has_all_numbers [] h = tt
@@ -159,26 +161,23 @@ signature_converts choosing ts ns s h e =
 
 -- ---- intrinsics
 
-together : (name : Place) (i : Intrinsic) (o : Option (List TypedPart)) (ts : List TypedPart) → o ≡ Some ts → all_suit (reckons i) ts ≡ true → Empty (unfit_together name i o) → Has (signature_on i ts)
-together name i o ts e s h = has_is_none (signature_on i ts) (alone (all_suit (reckons i) ts) _ s (is_false _ name (subst (λ o. Empty (unfit_together name i o)) e h)))
+together : (name : Place) (i : Intrinsic) (o : Option (List TypedPart)) (ts : List TypedPart) → o ≡ Some ts → all_suit (reckons i) ts ≡ true → Well (together_site name i o) → Has (signature_on i ts)
+together name i o ts e s h = has_is_none (signature_on i ts) (alone (all_suit (reckons i) ts) _ s (is_false _ name ((well_only (subst (λ o. Well (together_site name i o)) e h)).clear Mismatch)))
   where
     alone : (a b : Bool) → a ≡ true → (a && b) ≡ false → b ≡ false
     alone true b e f = f
     alone false b e f = absurd (cc)
 
-pub has_intrinsic : (name : Place) (i : Intrinsic) (parts : List Part) → AllTyped parts → (length parts == arity_of i) ≡ true → Empty (unfit_intrinsic name i parts) → Has (intrinsic_value name i parts)
+pub has_intrinsic : (name : Place) (i : Intrinsic) (parts : List Part) → AllTyped parts → (length parts == arity_of i) ≡ true → Well (intrinsic_sites name i parts) → Has (intrinsic_value name i parts)
 has_intrinsic name i parts h l e = has_then (all_typed_parts parts) _ (has_all_parts parts h) typed
   where
-    faults : Empty (each_failing (λ t. argument_suits (reckons i) t.of) parts ++ unfit_together name i (all_typed_parts parts))
-    faults = empty_if (length parts == arity_of i) _ l e
-
-    typed : (ts : List TypedPart) → all_typed_parts parts ≡ Some ts → Has (and_then (and_then (where_true ((length ts == arity_of i) && all_suit (reckons i) ts) ts) (signature_on i)) (λ s. and_then (convert_all s.arguments ts) (λ arguments. fixed name (type_of s.result) (tree.Intrinsic i arguments))))
+    typed : (ts : List TypedPart) → all_typed_parts parts ≡ Some ts → Has (◌>>=◌ (◌>>=◌ (where_true ((length ts == arity_of i) && all_suit (reckons i) ts) ts) (signature_on i)) (λ s. ◌>>=◌ (convert_all s.arguments ts) (λ arguments. fixed name (type_of s.result) (tree.Intrinsic i arguments))))
     typed ts q =
         let s = shown parts ts q in
-        let suit = shown_suit (reckons i) parts ts s (empty_left _ (unfit_together name i (all_typed_parts parts)) faults) in
+        let suit = shown_suit (reckons i) parts ts s (well_left e) in
         let counted = ap (λ (n : ℕ). n == arity_of i) (shown_length parts ts s) ∙ l in
         let whole = through_where ((length ts == arity_of i) && all_suit (reckons i) ts) ts (signature_on i) (both _ _ counted suit) in
-        has_then (and_then (where_true ((length ts == arity_of i) && all_suit (reckons i) ts) ts) (signature_on i)) _ (subst Has (sym whole) (together name i (all_typed_parts parts) ts q suit (empty_right (each_failing (λ t. argument_suits (reckons i) t.of) parts) _ faults)))
+        has_then (◌>>=◌ (where_true ((length ts == arity_of i) && all_suit (reckons i) ts) ts) (signature_on i)) _ (subst Has (sym whole) (together name i (all_typed_parts parts) ts q suit (well_right e)))
         (λ g p.
         let a = then_some (all_numbers ts) _ g (sym whole ∙ p) in
         has_then (convert_all g.arguments ts) _ (has_convert_all g.arguments ts (signature_converts (reckons i) ts a.0 g (numbered ts a.0 a.1) a.2)) (λ arguments f. tt))
@@ -202,25 +201,26 @@ makes_number (Some k) (type.Struct number) e = absurd (cc)
 makes_number None (type.Array of n) e = absurd (cc)
 makes_number (Some k) (type.Array of n) e = absurd (cc)
 
-shown_make : (size : Option ℕ) (parts : List Part) (ts : List TypedPart) → Shown parts ts → Empty (each_failing (λ t. makes size t.of) parts) → all_make size ts ≡ true
-shown_make size [] [] h e = refl
-shown_make size [] (t ∷ ts) h e = absurd h
-shown_make size (p ∷ parts) [] h e = absurd h
-shown_make size (p ∷ parts) (t ∷ ts) h e = both (makes size t.of) _
-    (passes_test (λ t. makes size t.of) (typed_part p) t h.0 (empty_left (failing (λ t. makes size t.of) (typed_part p)) _ e))
-    (shown_make size parts ts h.1 (empty_right (failing (λ t. makes size t.of) (typed_part p)) _ e))
+shown_make : (size : Option ℕ) (parts : List Part) (ts : List TypedPart) → Shown parts ts → Well (each_site (AtComponent size) parts) → all_make size ts ≡ true
+shown_make size [] [] h w = refl
+shown_make size [] (t ∷ ts) h w = absurd h
+shown_make size (p ∷ parts) [] h w = absurd h
+shown_make size (p ∷ parts) (t ∷ ts) h w = both (makes size t.of) _
+    (holds (makes size t.of) t.place ((site_is (AtComponent size) (typed_part p) t h.0 (well_left w)).clear Mismatch))
+    (shown_make size parts ts h.1 (well_right w))
 
-counted : (goal : Option Numbers) (n : Numbers) (o : Option (List TypedPart)) (ts : List TypedPart) (ns : List Numbers) (place : Place) → goal ≡ Some n → o ≡ Some ts → all_numbers ts ≡ Some ns → Empty (at_if (other_count goal (and_then o all_numbers)) place)
+counted : (goal : Option Numbers) (n : Numbers) (o : Option (List TypedPart)) (ts : List TypedPart) (ns : List Numbers) (place : Place) → goal ≡ Some n → o ≡ Some ts → all_numbers ts ≡ Some ns → Well (components_site place goal (◌>>=◌ o all_numbers))
     → (component_count ns == components n.size) ≡ true
-counted goal n o ts ns place g e f h = not_false _ (is_false _ place (subst (λ x. Empty (at_if (other_count (Some n) x) place)) f (subst (λ x. Empty (at_if (other_count (Some n) (and_then x all_numbers)) place)) e (subst (λ x. Empty (at_if (other_count x (and_then o all_numbers)) place)) g h))))
+counted goal n o ts ns place g e f w = holds _ place
+    ((well_only (subst (λ x. Well (components_site place (Some n) x)) f (subst (λ x. Well (components_site place (Some n) (◌>>=◌ x all_numbers))) e (subst (λ x. Well (components_site place x (◌>>=◌ o all_numbers))) g w)))).clear WrongArity)
 
-pub has_constructed : (place : Place) (of : ValueType) (parts : List Part) → AllTyped parts → Empty (each_failing (λ t. makes (size_of of) t.of) parts) → Empty (miscounted_components place (numbers (of_value_type of)) parts)
-    → Has (and_then (numbers (of_value_type of)) (λ goal. constructed place goal parts))
+pub has_constructed : (place : Place) (of : ValueType) (parts : List Part) → AllTyped parts → Well (each_site (AtComponent (size_of of)) parts) → Well (components_site place (numbers (of_value_type of)) (◌>>=◌ (all_typed_parts parts) all_numbers))
+    → Has (◌>>=◌ (numbers (of_value_type of)) (λ goal. constructed place goal parts))
 has_constructed place of parts h e m = has_then (numbers (of_value_type of)) _ (value_numbers of) (λ goal g. has_then (all_typed_parts parts) _ (has_all_parts parts h) (λ ts q.
-    has_then (all_numbers ts) _ (has_all_numbers ts (shown_numbers (λ t. makes (size_of of) t.of) parts ts (λ t. makes_number (size_of of) t.of) (shown parts ts q) e)) (λ ns p.
+    has_then (all_numbers ts) _ (has_all_numbers ts (shown_numbers (AtComponent (size_of of)) parts ts (λ t k. makes_number (size_of of) t.of (holds (makes (size_of of) t.of) t.place (k.clear Mismatch))) (shown parts ts q) e)) (λ ns p.
     let right = counted (numbers (of_value_type of)) goal (all_typed_parts parts) ts ns place g q p m in
     let made = subst (λ size. all_make size ts ≡ true) (sym (value_size of goal g)) (shown_make (size_of of) parts ts (shown parts ts q) e) in
-    has_then (and_then (where_true ((component_count ns == components goal.size) && all_make goal.size ts) ns) (λ ns. convert_all (map (λ n. record { of = goal.of; size = n.size }) ns) ts)) _
+    has_then (◌>>=◌ (where_true ((component_count ns == components goal.size) && all_make goal.size ts) ns) (λ ns. convert_all (map (λ n. record { of = goal.of; size = n.size }) ns) ts)) _
     (has_through ((component_count ns == components goal.size) && all_make goal.size ts) ns (λ ns. convert_all (map (λ n. record { of = goal.of; size = n.size }) ns) ts) (both _ _ right made)
     (has_convert_all _ ts (converts_each (λ n. record { of = goal.of; size = n.size }) ts ns size_same (numbered ts ns p))))
     (λ trees r. tt))))

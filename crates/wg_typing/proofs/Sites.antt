@@ -3,9 +3,10 @@ use Rattle.std.proofs.Common.{inl, inr, refl}
 use Rattle.wg_words.specs.declared.place.Place.{Place}
 use Rattle.wg_typing.specs.Sites.{Sites, only, ◌&◌, within}
 use Rattle.wg_typing.specs.Site.{Site}
-use Rattle.wg_typing.specs.Typing.{TypingRule, places, BrokenAt}
+use Rattle.wg_typing.specs.Typing.{places, BrokenAt}
 use Rattle.wg_typing.proofs.Facts.{Empty, none_in}
-use Rattle.wg_typing.specs.Region.{Region}
+use Rattle.wg_typing.specs.declared.fault.TypingRule.{TypingRule}
+use Rattle.wg_typing.specs.declared.event.Region.{Region}
 
 -- a site breaks no rule
 pub record Clear (s : Site) : Type 0 where

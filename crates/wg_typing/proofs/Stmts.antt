@@ -2,33 +2,33 @@
 use Rattle.std.proofs.Common.{◌≡◌, true, List, [], ◌∷◌, map, Option, Some, None, sym, subst}
 use Rattle.wg_words.specs.declared.place.Place.{Place}
 use Rattle.wg_typing.specs.Conversions.{truth_type}
-use Rattle.wg_typing.specs.Layers.{Part, typed_part}
+use Rattle.wg_typing.specs.Layers.{typed_part}
 use Rattle.wg_typing.specs.Maybe.{if_there}
-use Rattle.wg_typing.specs.RulesActs.{maybe_used}
-use Rattle.wg_typing.specs.RulesMismatch.{unfit_return, maybe_part}
-use Rattle.wg_typing.specs.RulesShared.{is_typed, no_value, output_used, sync_used}
-use Rattle.wg_typing.specs.Scope.{Context, GivesBack, nothing, a_value, unsure, enter, enter_loop, leave}
+use Rattle.wg_typing.specs.Scope.{Context, enter, enter_loop, leave}
 use Rattle.wg_typing.specs.Sites.{only, at_if}
-use Rattle.wg_typing.specs.Site.{AtJump}
-use Rattle.wg_typing.specs.Typing.{Mismatch, BadBarrier, BadOutputCall, OutOfProfile}
+use Rattle.wg_typing.specs.Site.{AtJump, AtReturn}
 use Rattle.wg_typing.specs.TypingDeclaration.{declaration_trees}
 use Rattle.wg_typing.specs.TypingDeclared.{fit_in}
 use Rattle.wg_typing.specs.TypingExpr.{part}
 use Rattle.wg_typing.specs.TypingLoop.{start_after, start_sites, start_tree, test_sites, in_header}
 use Rattle.wg_typing.specs.TypingStep.{header_trees, all_steps, maybe_steps}
-use Rattle.wg_typing.specs.TypingStmt.{Walked, Walk, block_after, block_sites, block_trees, branch_after, else_after, else_sites, tree_in, returned_sites, returned_tree, stmt_walked, walked}
+use Rattle.wg_typing.specs.TypingStmt.{Walked, Walk, block_after, block_sites, block_trees, branch_after, else_after, else_sites, tree_in, returned_sites, returned_tree, stmt_walked, walked, given_type}
 use Rattle.wg_tree.specs.declared.expr.Expr.{Expr}
 use Rattle.wg_tree.specs.declared.stmt.Start.{Start}
 use Rattle.wg_tree.specs.declared.stmt.Start.TheVariants as start
 use Rattle.wg_tree.specs.declared.stmt.Stmt.{Stmt, roll-Stmt, fold-roll-Stmt, ind-Stmt, map-Stmt}
 use Rattle.wg_tree.specs.declared.stmt.Stmt.TheOpen.{Stmt-F}
 use Rattle.wg_typing.proofs.Declarations.{Declares, Fine, IsSure, has_declaration, has_handle, sound}
-use Rattle.wg_typing.proofs.Exprs.{has_value}
-use Rattle.wg_typing.proofs.Facts.{Empty, Has, empty_left, empty_right, has_then, has_where, holds_nowhere, is_false, is_some_has, not_false}
-use Rattle.wg_typing.proofs.Parts.{IsTyped, Whole, has_fit, part_typed}
-use Rattle.wg_typing.proofs.Sites.{Well, well_left, well_only, well_right, well_within}
+use Rattle.wg_typing.proofs.Facts.{Empty, Has, has_then, has_where, holds_nowhere, is_false, is_some_has, not_false}
+use Rattle.wg_typing.proofs.Parts.{IsTyped, Whole, has_fit}
+use Rattle.wg_typing.proofs.Sites.{Well, well_left, well_only, well_right, well_within, Clear}
 use Rattle.wg_typing.proofs.Steps.{has_header, has_step}
-use Rattle.wg_typing.proofs.Wanted.{wanted_fits}
+use Rattle.wg_typing.proofs.Wanted.{wanted_fits, wanted_typed}
+use Rattle.wg_typing.specs.declared.part.Part.{Part}
+use Rattle.wg_typing.specs.declared.context.GivesBack.{GivesBack}
+use Rattle.wg_typing.specs.declared.context.GivesBack.TheVariants as gives_back
+use Rattle.wg_typing.specs.declared.fault.TypingRule.TheVariants.{Mismatch, OutOfProfile}
+use Rattle.wg_typing.specs.PartSites.{goal_if, is_typed}
 
 -- ---- what a statement leaves
 
@@ -83,24 +83,24 @@ WholeIf c (Some e) = Whole (part c e)
 typed_nowhere : (p : Part) → IsTyped p → Empty (at_if (is_typed p) p.place) → ⊥
 typed_nowhere p t h = holds_nowhere (is_typed p) p.place (is_some_has (typed_part p) t) h
 
-has_return : (c : Context) (g : GivesBack) (place : Place) (e : Option Expr) → IsSure g → WholeIf c e → Empty (unfit_return g place (maybe_part c e)) → Empty (maybe_used output_used c e) → Empty (maybe_used sync_used c e) → Has (returned_tree c g e)
-has_return c nothing place None s w u o i = tt
-has_return c nothing place (Some e) s w u o i =
-    absurd (typed_nowhere (part c e) (part_typed (part c e) w (empty_left (no_value (part c e)) _ u) o i) (empty_right (no_value (part c e)) _ u))
-has_return c (a_value of) place None s w u o i = absurd u
-has_return c (a_value of) place (Some e) s w u o i =
-    has_then (fit_in c of e) _ (has_fit of (part c e) (part_typed (part c e) w (empty_left (no_value (part c e)) _ u) o i) (empty_right (no_value (part c e)) _ u)) (λ v q. tt)
-has_return c unsure place e s w u o i = absurd s
+-- `return` gives back what is wanted
+has_return : (c : Context) (g : GivesBack) (place : Place) (e : Expr) → IsSure g → IsTyped (part c e) → Well (goal_if (given_type g) (part c e)) → Clear (AtReturn g place (Some (part c e))) → Has (returned_tree c g (Some e))
+has_return c gives_back.Nothing place e s t w k = absurd (typed_nowhere (part c e) t (k.clear Mismatch))
+has_return c (gives_back.Value of) place e s t w k = has_then (fit_in c of e) _ (has_fit of (part c e) t w) (λ v q. tt)
+has_return c gives_back.Unsure place e s t w k = absurd s
+
+returns_nothing : (c : Context) (g : GivesBack) (place : Place) → IsSure g → Clear (AtReturn g place None) → Has (returned_tree c g None)
+returns_nothing c gives_back.Nothing place s k = tt
+returns_nothing c (gives_back.Value of) place s k = absurd (k.clear Mismatch)
+returns_nothing c gives_back.Unsure place s k = absurd s
 
 returned : (c : Context) (place : Place) (e : Option Expr) → Fine c → Well (returned_sites c place e) → Has (returned_tree c c.returns e)
-returned c place None f h =
-    let here = well_only h in
-    has_return c c.returns place None f.gives tt (here.clear Mismatch) (here.clear BadOutputCall) (here.clear BadBarrier)
+returned c place None f h = returns_nothing c c.returns place f.gives (well_only h)
 returned c place (Some e) f h =
-    let here = well_only (well_right h) in
-    has_return c c.returns place (Some e) f.gives (has_value c (sound c f) e (well_left h)) (here.clear Mismatch) (here.clear BadOutputCall) (here.clear BadBarrier)
+    let wanted = well_left h in
+    has_return c c.returns place e f.gives (wanted_typed c (given_type c.returns) e (sound c f) wanted) (well_right wanted) (well_only (well_right h))
 
-jumped : (c : Context) (place : Place) → Well (only (AtJump c place)) → c.looped ≡ true
+jumped : (c : Context) (place : Place) → Well (only (AtJump c.looped place)) → c.looped ≡ true
 jumped c place h = not_false c.looped (is_false _ place ((well_only h).clear OutOfProfile))
 
 -- ---- loops

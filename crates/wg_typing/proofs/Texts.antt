@@ -3,10 +3,10 @@ use Rattle.std.proofs.Common.{◌≡◌, ℕ, Bool, true, false, List, [], ◌�
 use Rattle.std.specs.Prelude.{nat_le}
 use Rattle.wg_typed.specs.Constants.{const_value}
 use Rattle.wg_typing.specs.Conversions.{fits, is_number}
-use Rattle.wg_typing.specs.Layers.{Part, TypedPart, typed_part, fit}
+use Rattle.wg_typing.specs.Layers.{typed_part, fit}
 use Rattle.wg_typing.specs.Maybe.{where_true, all_of}
 use Rattle.wg_typing.specs.Scope.{Context, as_const, known_names, named_type}
-use Rattle.wg_typing.specs.Typing.{LimitPassed, IsWellTyped, typed}
+use Rattle.wg_typing.specs.Typing.{IsWellTyped, typed}
 use Rattle.wg_typing.specs.TypingBuffer.{buffer_of, buffer_meant, element_sites}
 use Rattle.wg_typing.specs.TypingConstant.{constant_of, constant_type, constant_meant, constant_sites}
 use Rattle.wg_typing.specs.TypingDeclared.{type_limit, declared_type, wanted_sites}
@@ -39,6 +39,9 @@ use Rattle.wg_typing.proofs.Names.{AllStand, Stands, StandsIf, stand_push, then_
 use Rattle.wg_typing.proofs.Sites.{Well, well_left, well_only, well_right}
 use Rattle.wg_typing.proofs.Wanted.{elemental, has_const, has_declared, named_clear, sound_const, wanted_fits, within}
 use Rattle.wg_typing.specs.Named.{is_among}
+use Rattle.wg_typing.specs.declared.part.Part.{Part}
+use Rattle.wg_typing.specs.declared.part.TypedPart.{TypedPart}
+use Rattle.wg_typing.specs.declared.fault.TypingRule.TheVariants.{LimitPassed}
 
 -- a text whose names stand, and in which each declaration has its typed form
 pub record Formed (x : Text) : Type 0 where

@@ -2,12 +2,14 @@
 use Rattle.std.proofs.Common.{◌≡◌, ℕ, true, Option, Some, None, refl, sym, ap, ◌∙◌, subst, arith}
 use Rattle.std.specs.Prelude.{◌==◌, ◌&&◌}
 use Rattle.std.proofs.lemmas.Grind.{common_steps}
-use Rattle.wg_typing.specs.Conversions.{Numbers, numbers, sized, type_of, same_type, size_fits, numbers_fit, fits, is_number, is_scalar, common_size, common, common_numbers, Class, arithmetic, shift, comparison, logic, suits, class_of, Operation, operation, operation_on, truths, sizes_fit, joined_size}
+use Rattle.wg_typing.specs.Conversions.{numbers, sized, type_of, same_type, size_fits, numbers_fit, fits, is_number, is_scalar, common_size, common, common_numbers, Class, arithmetic, shift, comparison, logic, suits, class_of, operation, operation_on, truths, sizes_fit, joined_size}
 use Rattle.wg_tree.specs.declared.expr.Scalar.{Scalar}
 use Rattle.wg_tree.specs.declared.expr.BinaryOperator.{BinaryOperator}
 use Rattle.wg_typed.specs.declared.types.TypeTree.{TypeTree}
 use Rattle.wg_typed.specs.declared.types.TypeTree.TheVariants as type
 use Rattle.wg_typing.proofs.Facts.{Has, or_right, some_value, then_some, where_passes, where_same, and_left, and_right}
+use Rattle.wg_typing.specs.declared.numbers.Numbers.{Numbers}
+use Rattle.wg_typing.specs.declared.numbers.Operation.{Operation}
 
 -- a number type has its numbers
 pub has_numbers : (t : TypeTree) → is_number t ≡ true → Has (numbers t)

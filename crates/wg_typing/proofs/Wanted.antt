@@ -5,14 +5,12 @@ use Rattle.std.proofs.lemmas.Grind.{common_steps}
 use Rattle.wg_typing.specs.AttributeArguments.{is_positive, is_narrow}
 use Rattle.wg_typed.specs.Constants.{const_value}
 use Rattle.wg_typing.specs.Conversions.{uint_type, element_of, of_value_type}
-use Rattle.wg_typing.specs.Layers.{Part, typed_part}
+use Rattle.wg_typing.specs.Layers.{typed_part}
 use Rattle.wg_typed.specs.Layout.{words_of}
 use Rattle.wg_typing.specs.RulesLimitPassed.{size_below}
-use Rattle.wg_typing.specs.RulesMismatch.{unfit_wanted, unfit_const, wide_size}
-use Rattle.wg_typing.specs.RulesShared.{is_typed, no_value}
+use Rattle.wg_typing.specs.RulesMismatch.{unfit_const, wide_size}
 use Rattle.wg_typing.specs.Scope.{Context, as_const, known_names, look, struct_if, named_type}
 use Rattle.wg_typing.specs.Site.{AtType}
-use Rattle.wg_typing.specs.Typing.{UnknownName, Mismatch, LimitPassed, BadBarrier, BadOutputCall}
 use Rattle.wg_typing.specs.TypingDeclared.{type_limit, size_value, array_of, type_of_size, declared_type, limit_site, wanted_sites, fit_in, const_sites, size_sites, declared_sites}
 use Rattle.wg_typing.specs.TypingExpr.{part}
 use Rattle.wg_tree.specs.declared.expr.Expr.{Expr}
@@ -25,26 +23,23 @@ use Rattle.wg_typed.specs.declared.types.ConstValue.{ConstValue}
 use Rattle.wg_typed.specs.declared.types.TypeTree.{TypeTree}
 use Rattle.wg_typing.specs.declared.scope.Meant.{Meant}
 use Rattle.wg_typing.specs.declared.scope.Meant.TheVariants as meant
-use Rattle.wg_typing.proofs.Exprs.{has_value}
-use Rattle.wg_typing.proofs.Facts.{Empty, Has, empty_left, empty_right, has_then, has_where, holds_nowhere, is_false, is_some_has, not_false, implied}
+use Rattle.wg_typing.proofs.Exprs.{has_type_here}
+use Rattle.wg_typing.proofs.Facts.{Empty, Has, has_then, has_where, holds_nowhere, is_false, is_some_has, not_false, implied}
 use Rattle.wg_typing.proofs.Layers.{Sound}
 use Rattle.wg_typing.proofs.Names.{AllStand, has_type}
-use Rattle.wg_typing.proofs.Parts.{IsTyped, has_fit, part_typed}
+use Rattle.wg_typing.proofs.Parts.{IsTyped, has_fit}
 use Rattle.wg_typing.proofs.Sites.{Clear, Well, well_left, well_only, well_right}
+use Rattle.wg_typing.specs.declared.part.Part.{Part}
+use Rattle.wg_typing.specs.declared.fault.TypingRule.TheVariants.{UnknownName, Mismatch, LimitPassed}
+use Rattle.wg_typing.specs.PartSites.{is_typed}
 
 -- ---- expressions that have to convert
 
-no_value_of : (goal : Option TypeTree) (p : Part) → Empty (unfit_wanted goal p) → Empty (no_value p)
-no_value_of None p h = h
-no_value_of (Some t) p h = empty_left (no_value p) _ h
-
 pub wanted_typed : (c : Context) (goal : Option TypeTree) (e : Expr) → Sound c → Well (wanted_sites c goal e) → IsTyped (part c e)
-wanted_typed c goal e s h =
-    let here = well_only (well_right h) in
-    part_typed (part c e) (has_value c s e (well_left h)) (no_value_of goal (part c e) (here.clear Mismatch)) (here.clear BadOutputCall) (here.clear BadBarrier)
+wanted_typed c goal e s h = has_type_here c s e (well_left h)
 
 pub wanted_fits : (c : Context) (goal : TypeTree) (e : Expr) → Sound c → Well (wanted_sites c (Some goal) e) → Has (fit_in c goal e)
-wanted_fits c goal e s h = has_fit goal (part c e) (wanted_typed c (Some goal) e s h) (empty_right (no_value (part c e)) _ ((well_only (well_right h)).clear Mismatch))
+wanted_fits c goal e s h = has_fit goal (part c e) (wanted_typed c (Some goal) e s h) (well_right h)
 
 -- ---- a `const`
 
@@ -74,8 +69,7 @@ elemental_struct None h = h
 elemental_struct (Some (meant.Struct number)) h = tt
 elemental_struct (Some (meant.Constant of words known)) h = h
 elemental_struct (Some (meant.Shared variable of)) h = h
-elemental_struct (Some (meant.Local local of constant)) h = h
-elemental_struct (Some (meant.Parameter parameter of)) h = h
+elemental_struct (Some (meant.Variable variable of constant)) h = h
 elemental_struct (Some (meant.Object object)) h = h
 elemental_struct (Some (meant.Function number is_entry result parameters chain)) h = h
 elemental_struct (Some meant.Itself) h = h

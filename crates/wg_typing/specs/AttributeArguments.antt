@@ -3,7 +3,8 @@
 use Rattle.std.specs.Prelude.{ℕ, ◌*◌, Bool, false, not, ◌&&◌, ◌||◌, nat_lt, nat_le, if◌then◌else◌, is_some, List, [], ◌∷◌, codes, Option, Some, None, true, ◌==◌}
 use Prim.Native.String.{String}
 use Rattle.std.specs.Str.{bytes_eq}
-use Rattle.wg_typing.specs.Maybe.{◌>>=◌, where_true}
+use Rattle.wg_words.specs.Maybe.{◌>>=◌}
+use Rattle.wg_typing.specs.Maybe.{where_true}
 use Rattle.wg_typing.specs.Named.{at_name, is_called}
 use Rattle.wg_typed.specs.declared.types.ConstValue.{ConstValue}
 use Rattle.wg_typed.specs.declared.typed_stmt.ArgumentValue.{ArgumentValue}

@@ -6,6 +6,7 @@ use Rattle.wg_typing.specs.AttributeArguments.{mode_of, has, in_mode, is_broadca
 use Rattle.wg_typing.specs.AttributeSites.{AttributeSite, AtAttribute, AtNode, AtInput, AtOutput, AtValue}
 use Rattle.wg_typing.specs.AttributeSystem.{is_grid_field}
 use Rattle.wg_typing.specs.Sites.{at_if}
+use Rattle.wg_typing.specs.TypingSystem.{system_of}
 use Rattle.wg_typed.specs.declared.typed.TypedField.{TypedField}
 use Rattle.wg_typed.specs.declared.typed_stmt.TypedAttribute.{TypedAttribute}
 
@@ -27,4 +28,4 @@ missing_at (AtAttribute position before a) = []
 missing_at (AtNode f fields) = at_if (node_lacks f.attributes fields) f.name.place
 missing_at (AtInput mode word p) = []
 missing_at (AtOutput array p) = at_if (output_lacks array p.attributes) p.name.place
-missing_at (AtValue mode p) = at_if (is_none p.system) p.name.place
+missing_at (AtValue mode p) = at_if (is_none (system_of p)) p.name.place

@@ -1,7 +1,8 @@
 -- Rule 404 of attributes: an argument out of its range or of a wide type, or arguments of another form. Its number is own.
 use Rattle.std.specs.Prelude.{ℕ, ◌*◌, ◌==◌, Bool, true, false, not, ◌&&◌, nat_le, nat_lt, if◌then◌else◌, is_some, List, [], ◌∷◌, slice_get, Option, Some, None}
 use Rattle.wg_words.specs.declared.place.Place.{Place}
-use Rattle.wg_typing.specs.Maybe.{◌>>=◌, where_true}
+use Rattle.wg_words.specs.Maybe.{◌>>=◌}
+use Rattle.wg_typing.specs.Maybe.{where_true}
 use Rattle.wg_words.specs.Characters.{is_identifier}
 use Rattle.wg_typing.specs.AttributeArguments.{Mode, mode_named, has, is_one_text, product, in_mode, is_thread, is_narrow}
 use Rattle.wg_typing.specs.AttributeSites.{AttributeSite, AtAttribute, AtNode, AtInput, AtOutput, AtValue, Position, on_struct, on_node, on_plain, on_input, on_output, on_output_array, on_value, on_branch, Own, Kind, a_value, an_input, an_output, a_handle, kind_of}

@@ -1,9 +1,9 @@
 -- Rule 403 of attributes: the second of one name, of the two grids of a node, or of the two bounds of an output. Its number is own.
-use Rattle.std.specs.Prelude.{Bool, true, false, ◌||◌, List, [], map, Option, Some}
+use Rattle.std.specs.Prelude.{ℕ, Bool, true, false, ◌||◌, List, [], ◌∷◌, map, Option, Some}
 use Rattle.std.specs.Str.{bytes_eq}
 use Rattle.std.specs.List.{list_any}
 use Rattle.wg_words.specs.declared.place.Place.{Place}
-use Rattle.wg_typing.specs.Named.{small}
+use Rattle.wg_typing.specs.Named.{small, is_among}
 use Rattle.wg_typing.specs.AttributeSites.{AttributeSite, AtAttribute, AtNode, AtInput, AtOutput, AtValue, Position}
 use Rattle.wg_typing.specs.AttributeNames.{Name, dispatch_grid, max_dispatch_grid, max_records, max_records_shared_with, standing}
 use Rattle.wg_typing.specs.Sites.{at_if}
@@ -32,3 +32,15 @@ twice_at (AtNode f fields) = []
 twice_at (AtInput mode word p) = []
 twice_at (AtOutput array p) = []
 twice_at (AtValue mode p) = []
+
+-- ---- the same by what is kept of the attributes before: their names in small letters, and what they are there
+
+abbrev pub small_name : TypedAttribute → List ℕ
+small_name a = map small a.name.name
+
+abbrev pub any_rival : Option Name → List (Option Name) → Bool
+any_rival name [] = false
+any_rival name (x ∷ rest) = rival_names x name || any_rival name rest
+
+abbrev pub clashes_among : Position → List (List ℕ) → List (Option Name) → TypedAttribute → Bool
+clashes_among position names stood a = is_among names (small_name a) || any_rival (standing position a) stood

@@ -7,6 +7,7 @@ use Rattle.wg_typing.specs.AttributeNames.{Name, dispatch_grid, max_dispatch_gri
 use Rattle.wg_typed.specs.declared.typed.SystemValue.{SystemValue}
 use Rattle.wg_typed.specs.declared.typed.SystemValue.TheVariants as system
 use Rattle.wg_typing.specs.Sites.{at_if}
+use Rattle.wg_typing.specs.TypingSystem.{system_of}
 use Rattle.wg_tree.specs.declared.stmt.ObjectWord.{ObjectWord}
 use Rattle.wg_tree.specs.declared.stmt.ObjectWord.TheVariants as object
 
@@ -62,4 +63,4 @@ wrong_mode_at (AtAttribute position before a) = at_if (is_forbidden position (st
 wrong_mode_at (AtNode f fields) = []
 wrong_mode_at (AtInput mode word p) = at_if (in_mode (λ m. not (takes word m)) mode) p.name.place
 wrong_mode_at (AtOutput array p) = []
-wrong_mode_at (AtValue mode p) = at_if (is_not_given mode p.system) p.name.place
+wrong_mode_at (AtValue mode p) = at_if (is_not_given mode (system_of p)) p.name.place

@@ -10,13 +10,8 @@ use Rattle.wg_typing.specs.AttributeTwice.{twice_at}
 use Rattle.wg_typing.specs.AttributeRange.{range_at}
 use Rattle.wg_typing.specs.AttributeWrongMode.{wrong_mode_at}
 use Rattle.wg_typed.specs.declared.typed.Typed.{Typed}
-
-pub data AttributeRule : Type 0 where
-  Unknown : AttributeRule
-  Missing : AttributeRule
-  Twice : AttributeRule
-  Range : AttributeRule
-  WrongMode : AttributeRule
+use Rattle.wg_typing.specs.declared.fault.AttributeRule.{AttributeRule}
+use Rattle.wg_typing.specs.declared.fault.AttributeRule.TheVariants.{Unknown, Missing, Twice, Range, WrongMode}
 
 abbrev pub attribute_number : AttributeRule → ℕ
 attribute_number Unknown = 401

@@ -1,7 +1,8 @@
 -- Which types convert to which, and the types in which operators reckon (HLSL Shader Model 6.8, without implicit truncation; the
 -- sizes of the operands of a shift are own).
 use Rattle.std.specs.Prelude.{ℕ, ◌==◌, Bool, true, false, ◌&&◌, ◌||◌, if◌then◌else◌, Option, Some, None, not}
-use Rattle.wg_typing.specs.Maybe.{◌>>=◌, where_true}
+use Rattle.wg_words.specs.Maybe.{◌>>=◌}
+use Rattle.wg_typing.specs.Maybe.{where_true}
 use Rattle.wg_tree.specs.declared.expr.Scalar.{Scalar}
 use Rattle.wg_tree.specs.declared.expr.Scalar.TheVariants as scalar
 use Rattle.wg_tree.specs.declared.expr.ValueType.{ValueType}
@@ -13,6 +14,8 @@ use Rattle.wg_typed.specs.declared.types.ElementType.TheVariants as element
 use Rattle.wg_typed.specs.declared.types.TypeTree.{TypeTree}
 use Rattle.wg_typed.specs.declared.types.TypeTree.TheVariants as type
 use Rattle.wg_typed.specs.Operators.{is_wide, counted, common_scalar, literal_scalar}
+use Rattle.wg_typing.specs.declared.numbers.Numbers.{Numbers}
+use Rattle.wg_typing.specs.declared.numbers.Operation.{Operation}
 
 -- ---- equal types
 
@@ -44,11 +47,6 @@ same_type (type.Array a m) (type.Array b n) = same_element a b && m == n
 same_type _ _ = false
 
 -- ---- types of numbers
-
--- a scalar, or a vector of so many of them
-pub record Numbers : Type 0 where
-  pub of : Scalar
-  pub size : Option ℕ
 
 abbrev pub numbers : TypeTree → Option Numbers
 numbers (type.Scalar of) = Some (record { of = of; size = None })
@@ -181,12 +179,6 @@ suits arithmetic t = is_number t
 suits shift t = is_number t
 suits comparison t = is_number t
 suits logic t = is_scalar t
-
--- the types to which the operands are converted, and the type of the result
-pub record Operation : Type 0 where
-  pub left : Numbers
-  pub right : Numbers
-  pub result : Numbers
 
 abbrev pub truths : Option ℕ → Numbers
 truths size = record { of = scalar.Bool; size = size }

@@ -2,16 +2,16 @@
 use Rattle.std.specs.Prelude.{ℕ, ◌≡◌, ◌<◌, ◌≤◌, ◌⊎◌, ◌==◌, ◌&&◌, ◌||◌, Bool, nat_lt, if◌then◌else◌, List, [], ◌∷◌, ◌++◌, Option, Some, None}
 use Rattle.wg_words.specs.declared.place.Place.{Place}
 use Rattle.wg_typing.specs.Sites.{Sites, nowhere, only, within, ◌&◌, In}
-use Rattle.wg_typing.specs.Typing.{TypingRule, UnknownName, Repeated, Mismatch, NotAssignable, Recursion, LimitPassed, BadBarrier, BadOutputCall, NotCompleted, WrongArity, OutOfProfile, typing_number, places, sites}
+use Rattle.wg_typing.specs.Typing.{typing_number, places, sites}
 use Rattle.wg_tree.specs.declared.item.Source.{Source}
-use Rattle.wg_typing.specs.Attributes.{AttributeRule, Unknown, Missing, Twice, Range, WrongMode, attribute_number, attribute_places}
+use Rattle.wg_typing.specs.Attributes.{attribute_number, attribute_places}
 use Rattle.wg_typing.specs.AttributeSites.{sites_of}
 use Rattle.wg_typed.specs.declared.typed.Typed.{Typed}
-
--- a broken rule, by its number, at a place
-pub record Fault : Type 0 where
-  pub rule : ℕ
-  pub place : Place
+use Rattle.wg_typing.specs.declared.fault.TypingRule.{TypingRule}
+use Rattle.wg_typing.specs.declared.fault.AttributeRule.{AttributeRule}
+use Rattle.wg_typing.specs.declared.fault.Fault.{Fault}
+use Rattle.wg_typing.specs.declared.fault.TypingRule.TheVariants.{UnknownName, Repeated, Mismatch, NotAssignable, Recursion, LimitPassed, BadBarrier, BadOutputCall, NotCompleted, WrongArity, OutOfProfile}
+use Rattle.wg_typing.specs.declared.fault.AttributeRule.TheVariants.{Unknown, Missing, Twice, Range, WrongMode}
 
 abbrev pub typing_rules : List TypingRule
 typing_rules = UnknownName ∷ Repeated ∷ Mismatch ∷ NotAssignable ∷ Recursion ∷ LimitPassed ∷ BadBarrier ∷ BadOutputCall ∷ NotCompleted ∷ WrongArity ∷ OutOfProfile ∷ []

@@ -1,10 +1,9 @@
 -- One layer of an expression, whose parts are shown by what they are.
 use Rattle.std.specs.Prelude.{Bool, true, false, List, [], ◌∷◌, map, Option, Some, None}
 use Rattle.wg_words.specs.declared.place.Place.{Place}
-use Rattle.wg_typing.specs.Maybe.{◌>>=◌, where_true, all_of}
+use Rattle.wg_words.specs.Maybe.{◌>>=◌}
+use Rattle.wg_typing.specs.Maybe.{where_true, all_of}
 use Rattle.wg_typing.specs.Conversions.{same_type, fits}
-use Rattle.wg_tree.specs.declared.expr.Named.{Named}
-use Rattle.wg_tree.specs.declared.expr.BinaryOperator.{BinaryOperator}
 use Rattle.wg_tree.specs.declared.expr.Expr.TheOpen.{Expr-F}
 use Rattle.wg_typed.specs.declared.types.TypeTree.{TypeTree}
 use Rattle.wg_typed.specs.declared.typed_expr.TypedExpr.{TypedExpr, roll-TypedExpr}
@@ -15,27 +14,23 @@ use Rattle.wg_typing.specs.declared.scope.Standing.TheVariants as standing
 use Rattle.wg_typing.specs.declared.scope.Value.{Value}
 use Rattle.wg_typing.specs.declared.scope.Value.TheVariants as value
 use Rattle.wg_typing.specs.declared.scope.Act.{Act}
-use Rattle.wg_typing.specs.TypingActs.{NamedCall, call_in}
+use Rattle.wg_typing.specs.TypingActs.{call_in}
+use Rattle.wg_typing.specs.declared.part.NamedCall.{NamedCall}
+use Rattle.wg_typing.specs.declared.part.FormLayer.{FormLayer}
+use Rattle.wg_typing.specs.declared.part.LinkLayer.{LinkLayer}
+use Rattle.wg_typing.specs.declared.part.Part.{Part}
+use Rattle.wg_typing.specs.declared.part.TypedPart.{TypedPart}
+use Rattle.wg_typing.specs.declared.part.FormLayer.TheVariants as form_layer
 
 -- ---- layers
-
--- what follows a value
-pub data FormLayer (P : Type 0) : Type 0 where
-  member : Named → FormLayer P
-  method : Named → List P → FormLayer P
-  index : P → FormLayer P
-
-pub record LinkLayer (P : Type 0) : Type 0 where
-  pub operator : BinaryOperator
-  pub operand : P
 
 abbrev pub Layer : Type 0 → Type 0
 Layer P = Expr-F P (FormLayer P) (LinkLayer P)
 
 abbrev pub map_form : {P Q : Type 0} → (P → Q) → FormLayer P → FormLayer Q
-map_form f (member name) = member name
-map_form f (method name arguments) = method name (map f arguments)
-map_form f (index at) = index (f at)
+map_form f (form_layer.Member name) = form_layer.Member name
+map_form f (form_layer.Method name arguments) = form_layer.Method name (map f arguments)
+map_form f (form_layer.Index at) = form_layer.Index (f at)
 
 abbrev pub map_link : {P Q : Type 0} → (P → Q) → LinkLayer P → LinkLayer Q
 map_link f l = record { operator = l.operator; operand = f l.operand }
@@ -57,36 +52,12 @@ map_layer f (Expr-F.Choice test a b) = Expr-F.Choice (f test) (f a) (f b)
 
 -- ---- parts
 
--- what an expression is as an argument of `Barrier`: operands of `|`, each a name, the number 0, or another expression, in which a
--- rule is broken (false) or none is; an output call or a syncing barrier there breaks one
-pub data Piece : Type 0 where
-  word : Named → Piece
-  zero_word : Piece
-  other : Bool → Piece
-  -- what follows are operands of other operators
-  misused : Piece
-
--- What an expression shows to what is around it: the place of its first token; what it is, which is absent where a rule is broken
--- in it; the output call or syncing barrier that it is by its name; and what it is to a barrier.
-pub record Part : Type 0 where
-  pub place : Place
-  pub value : Option Value
-  pub by_name : Option NamedCall
-  pub pieces : List Piece
-
 abbrev pub call_of : Part → Option NamedCall
 call_of p = call_in p.value p.by_name
 
--- a part that has a type
-pub record TypedPart : Type 0 where
-  pub place : Place
-  pub of : TypeTree
-  pub standing : Standing
-  pub tree : TypedExpr
-
 abbrev pub typed_at : Place → Option Value → Option TypedPart
 typed_at place (Some (value.Typed of standing tree)) = Some (record { place = place; of = of; standing = standing; tree = tree })
-typed_at place (Some (value.Object object)) = None
+typed_at place (Some (value.Object object element)) = None
 typed_at place (Some (value.Act name act)) = None
 typed_at place (Some (value.Text bytes)) = None
 typed_at place None = None

@@ -11,10 +11,11 @@ pub mod Attributes
 pub mod Conversions
 pub mod Faults
 pub mod Layers
+pub mod Marked
 pub mod Maybe
 pub mod Named
-pub mod Region
-pub mod RulesActs
+pub mod PartSites
+pub mod Passes
 pub mod RulesBadBarrier
 pub mod RulesBadOutputCall
 pub mod RulesCollective

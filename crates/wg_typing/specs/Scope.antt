@@ -1,6 +1,6 @@
 -- Names in scope, and the context in which a statement or an expression stands (HLSL Shader Model 6.8, scopes; which constructs
 -- open a scope is own).
-use Rattle.std.specs.Prelude.{ℕ, Bool, true, if◌then◌else◌, List, [], ◌∷◌, ◌++◌, length, map, drop, Option, Some, None}
+use Rattle.std.specs.Prelude.{ℕ, true, if◌then◌else◌, List, [], ◌∷◌, ◌++◌, length, map, drop, Option, Some, None}
 use Rattle.std.specs.Option.{option_or}
 use Rattle.std.specs.Str.{bytes_eq}
 use Rattle.wg_typing.specs.Maybe.{where_true}
@@ -12,13 +12,12 @@ use Rattle.wg_tree.specs.declared.expr.TypeName.TheVariants as type_name
 use Rattle.wg_typed.specs.declared.types.ConstValue.{ConstValue}
 use Rattle.wg_typed.specs.declared.types.TypeTree.{TypeTree}
 use Rattle.wg_typed.specs.declared.types.TypeTree.TheVariants as type
-use Rattle.wg_typed.specs.declared.typed.TypedStruct.{TypedStruct}
-use Rattle.wg_typed.specs.declared.typed.TypedHandle.{TypedHandle}
 use Rattle.wg_typing.specs.declared.scope.Declared.{Declared}
 use Rattle.wg_typing.specs.declared.scope.Meant.{Meant}
 use Rattle.wg_typing.specs.declared.scope.Meant.TheVariants as meant
 use Rattle.wg_typing.specs.Named.{is_among}
-use Rattle.wg_typed.specs.declared.typed_expr.TypedExpr.{TypedExpr}
+use Rattle.wg_typing.specs.declared.context.ContextOf.{ContextOf}
+use Rattle.wg_typing.specs.declared.context.Around.TheVariants as surrounding
 
 -- ---- names
 
@@ -31,8 +30,7 @@ abbrev pub constant_if : Option Meant → Option ConstValue
 constant_if (Some (meant.Constant of words value)) = value
 constant_if (Some (meant.Struct number)) = None
 constant_if (Some (meant.Shared variable of)) = None
-constant_if (Some (meant.Local local of constant)) = None
-constant_if (Some (meant.Parameter parameter of)) = None
+constant_if (Some (meant.Variable variable of constant)) = None
 constant_if (Some (meant.Object object)) = None
 constant_if (Some (meant.Function number is_entry result parameters chain)) = None
 constant_if (Some meant.Itself) = None
@@ -47,8 +45,7 @@ abbrev pub struct_if : Option Meant → Option TypeTree
 struct_if (Some (meant.Struct number)) = Some (type.Struct number)
 struct_if (Some (meant.Constant of words known)) = None
 struct_if (Some (meant.Shared variable of)) = None
-struct_if (Some (meant.Local local of constant)) = None
-struct_if (Some (meant.Parameter parameter of)) = None
+struct_if (Some (meant.Variable variable of constant)) = None
 struct_if (Some (meant.Object object)) = None
 struct_if (Some (meant.Function number is_entry result parameters chain)) = None
 struct_if (Some meant.Itself) = None
@@ -62,40 +59,9 @@ named_type names (type_name.Struct name) = struct_if (look name.name names)
 
 -- ---- contexts
 
--- Where an expression stands: in an entry function of so many lanes, in a plain function, in a `const`, or in the arguments of an
--- attribute, in which these names may stand without a value.
-pub data Around : Type 0 where
-  in_entry : ℕ → Around
-  in_plain : Around
-  in_const : Around
-  in_attribute : List (List ℕ) → Around
-
--- what a function gives back: nothing, a value of a type, or one of a type that is broken
-pub data GivesBack : Type 0 where
-  nothing : GivesBack
-  a_value : TypeTree → GivesBack
-  unsure : GivesBack
-
--- a local: its type, whether it is `const`, and its start value, where it has one in which no rule is broken
-pub record LocalForm : Type 0 where
-  pub of : TypeTree
-  pub constant : Bool
-  pub value : Option TypedExpr
-
--- Where a statement stands: the names in scope, of which the first so many belong to the scopes around; the structs by number;
--- the function around, the names of its parameters, and what it gives back; whether it is in the body of a loop; and the locals and
--- the handles that were declared before it in the function, by number. A handle
--- whose request is broken has no typed form.
-pub record Context : Type 0 where
-  pub names : List Declared
-  pub start : ℕ
-  pub structs : List TypedStruct
-  pub around : Around
-  pub parameters : List (List ℕ)
-  pub returns : GivesBack
-  pub looped : Bool
-  pub locals : List LocalForm
-  pub handles : List (Option TypedHandle)
+-- where a statement stands, by the names that are declared there
+abbrev pub Context : Type 0
+Context = ContextOf (List Declared)
 
 abbrev pub name_bytes : Declared → List ℕ
 name_bytes d = d.name.name
@@ -115,9 +81,9 @@ enter c = record c { start = length c.names }
 abbrev pub enter_loop : Context → Context
 enter_loop c = record c { start = length c.names; looped = true }
 
--- after a scope within: its names are gone, its locals and handles keep their numbers
+-- after a scope within: its names are gone, its variables and handles keep their numbers
 abbrev pub leave : Context → Context → Context
-leave outer inner = record outer { locals = inner.locals; handles = inner.handles }
+leave outer inner = record outer { variables = inner.variables; handles = inner.handles }
 
 -- Of two declarations of one name in a scope the first counts, and the second declares nothing: what a declaration leaves.
 abbrev pub once : Named → Context → Context → Context
@@ -128,8 +94,8 @@ declare name m c = record c { names = c.names ++ record { name = name; meant = m
 
 -- the same place, in a `const`
 abbrev pub as_const : Context → Context
-as_const c = record c { around = in_const }
+as_const c = record c { around = surrounding.Const }
 
 -- the same place, in an attribute, where these names may stand
 abbrev pub as_attribute : List (List ℕ) → Context → Context
-as_attribute allowed c = record c { around = in_attribute allowed }
+as_attribute allowed c = record c { around = surrounding.Attribute allowed }

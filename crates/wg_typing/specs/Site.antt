@@ -1,62 +1,82 @@
 -- Where in a text the rules of types are looked at.
 use Rattle.std.specs.Prelude.{ℕ, Bool, List, Option}
 use Rattle.wg_words.specs.declared.place.Place.{Place}
-use Rattle.wg_typing.specs.Scope.{Context, Around}
-use Rattle.wg_typing.specs.Layers.{Layer, FormLayer, LinkLayer, Part}
-use Rattle.wg_typing.specs.TypingForms.{Along}
+use Rattle.wg_typing.specs.Scope.{Context}
+use Rattle.wg_typing.specs.TypingIntrinsic.{Reckons}
+use Rattle.wg_tree.specs.declared.expr.BinaryOperator.{BinaryOperator}
 use Rattle.wg_tree.specs.declared.expr.Named.{Named}
-use Rattle.wg_tree.specs.declared.expr.Expr.{Expr}
 use Rattle.wg_tree.specs.declared.expr.TypeName.{TypeName}
 use Rattle.wg_tree.specs.declared.stmt.ObjectType.{ObjectType}
-use Rattle.wg_tree.specs.declared.stmt.Step.{Step}
+use Rattle.wg_tree.specs.declared.stmt.ObjectWord.{ObjectWord}
+use Rattle.wg_typed.specs.Uniform.{UniformSetting}
 use Rattle.wg_typed.specs.declared.types.ConstValue.{ConstValue}
 use Rattle.wg_typed.specs.declared.types.TypeTree.{TypeTree}
-use Rattle.wg_typing.specs.TypingActs.{NamedCall}
-use Rattle.wg_typing.specs.Region.{Region}
-use Rattle.wg_typed.specs.Uniform.{UniformSetting}
+use Rattle.wg_typed.specs.declared.typed_expr.Intrinsic.{Intrinsic}
+use Rattle.wg_typing.specs.declared.called.CalledName.{CalledName}
+use Rattle.wg_typing.specs.declared.context.Around.{Around}
+use Rattle.wg_typing.specs.declared.context.GivesBack.{GivesBack}
+use Rattle.wg_typing.specs.declared.event.Event.{Event}
+use Rattle.wg_typing.specs.declared.part.Along.{Along}
+use Rattle.wg_typing.specs.declared.part.FormLayer.{FormLayer}
+use Rattle.wg_typing.specs.declared.part.NamedCall.{NamedCall}
+use Rattle.wg_typing.specs.declared.part.Part.{Part}
+use Rattle.wg_typing.specs.declared.part.TypedPart.{TypedPart}
+use Rattle.wg_typing.specs.declared.scope.FormalParameter.{FormalParameter}
+use Rattle.wg_typing.specs.declared.scope.Meant.{Meant}
 
--- what happens in a function, in the order of the text
-pub data Event : Type 0 where
-  -- a local is declared, of so many words
-  declares : Named → ℕ → Event
-  -- a handle is declared, with its number
-  requested : Named → ℕ → Event
-  -- `OutputComplete` is called on the handle of a number
-  completed : ℕ → Event
-  -- a collective statement, by the call that it is, in these parts of the body, the outermost first
-  collective : Option NamedCall → List Region → Event
-  -- the word `return`
-  returns : Place → Event
-  -- a plain function is called, from which the longest chain of calls has so many functions
-  calls : ℕ → Event
-  -- a parameter is assigned, or given to be changed, in whole or in part
-  changes : ℕ → Event
-
+-- Of an expression with a broken part the sites of names and of values alone are looked at: the others have parts with types.
 pub data Site : Type 0 where
-  -- one layer of an expression, at its first token
-  AtExpr : Context → Place → Layer Part → Site
+  -- a name as an expression, and what it means there
+  AtNamed : Around → Named → Option Meant → Site
   -- a part of an expression that has to be a value, in what is around it
   AtValue : Around → Part → Site
+  -- a called name, and what it is, with its arguments, whatever these are
+  AtCall : Around → Place → CalledName → List Part → Site
+  -- a called name or a constructor, and whether it has as many arguments or components as it takes
+  AtCount : Place → Bool → Site
+  -- an argument of a plain function, with its parameter
+  AtArgument : FormalParameter → TypedPart → Site
+  -- what has to be a number
+  AtNumber : TypedPart → Site
+  -- what has to convert to a type
+  AtGoal : TypeTree → TypedPart → Site
+  -- an argument of an intrinsic, with what that reckons in
+  AtSuited : Reckons → TypedPart → Site
+  -- all arguments of an intrinsic, as many as it takes, at its name
+  AtTogether : Place → Intrinsic → List TypedPart → Site
+  -- a part of a constructor of a scalar, or of a vector of a size
+  AtComponent : Option ℕ → TypedPart → Site
+  -- the two results of `?:`, and the first token of all
+  AtResults : Place → TypedPart → TypedPart → Site
+  -- what an interlocked form changes, where that is no word of a raw buffer
+  AtDestination : TypedPart → Site
+  -- what takes the old word of an interlocked form: as a word, and as what is assigned
+  AtWord : TypedPart → Site
+  AtAssigned : TypedPart → Site
+  -- the arguments of `Barrier`, which has this name
+  AtFlags : Context → Place → List Part → Site
+  -- an output call or a barrier where neither may stand: in a barrier's arguments, or with a broken argument before a form
+  AtUsed : Option NamedCall → Site
   -- a member, a method or an index after a value, with what stands before it and the first token of all
   AtForm : Context → Place → Along → FormLayer Part → Site
-  -- an operator of a chain, with the type of what stands before it and the first token of all
-  AtLink : Place → TypeTree → LinkLayer Part → Site
-  -- an expression among a barrier's arguments that is no flag, and the call that it is
-  AtFlag : Option NamedCall → Site
-  -- an expression that has to convert to a type, where that is known: a condition, the value of a constant
-  AtWanted : Context → Option TypeTree → Expr → Site
-  -- the start value of a local
-  AtStart : Context → Option TypeTree → Expr → Site
-  -- an expression where a `const` is wanted
-  AtConst : Context → Expr → Site
-  -- a step, in the header of a `for` or as a statement
-  AtStep : Context → Bool → Step → Site
-  -- a handle, of which the record type has a number where it is not broken, and the expression from which it starts
-  AtHandle : Context → ObjectType → Named → Option ℕ → Expr → Site
-  -- `return`, with or without a value
-  AtReturn : Context → Place → Option Expr → Site
-  -- `break` or `continue`
-  AtJump : Context → Place → Site
+  -- an operator of a chain between the type of what stands before it and its operand, and the first token of all
+  AtLink : Place → TypeTree → BinaryOperator → TypedPart → Site
+  -- an expression where a `const` is wanted, and its value
+  AtConst : Option ConstValue → Part → Site
+  -- the start value of a local of a type, where that is known
+  AtStart : Option TypeTree → Part → Site
+  -- what is assigned to
+  AtTarget : Part → Site
+  -- `target op= value`
+  AtUpdate : BinaryOperator → TypedPart → TypedPart → Site
+  -- an expression by itself, in the header of a `for` or as a statement
+  AtAlone : Context → Bool → Part → Site
+  -- a handle, of which the record type has a number where it is not broken, and what it starts from
+  AtHandle : Context → ObjectWord → Named → Option ℕ → Part → Site
+  -- `return` where this is given back, with or without a value
+  AtReturn : GivesBack → Place → Option Part → Site
+  -- `break` or `continue`, in the body of a loop or not
+  AtJump : Bool → Place → Site
   -- the words of a type
   AtType : Context → TypeName → Site
   -- a name that is declared among these names of its scope

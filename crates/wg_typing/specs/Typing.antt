@@ -17,19 +17,8 @@ use Rattle.wg_typing.specs.RulesBadOutputCall.{bad_output_call}
 use Rattle.wg_typing.specs.RulesNotCompleted.{not_completed}
 use Rattle.wg_tree.specs.declared.item.Source.{Source}
 use Rattle.wg_typed.specs.declared.typed.Typed.{Typed}
-
-pub data TypingRule : Type 0 where
-  UnknownName : TypingRule
-  Repeated : TypingRule
-  Mismatch : TypingRule
-  NotAssignable : TypingRule
-  Recursion : TypingRule
-  LimitPassed : TypingRule
-  BadBarrier : TypingRule
-  BadOutputCall : TypingRule
-  NotCompleted : TypingRule
-  WrongArity : TypingRule
-  OutOfProfile : TypingRule
+use Rattle.wg_typing.specs.declared.fault.TypingRule.{TypingRule}
+use Rattle.wg_typing.specs.declared.fault.TypingRule.TheVariants.{UnknownName, Repeated, Mismatch, NotAssignable, Recursion, LimitPassed, BadBarrier, BadOutputCall, NotCompleted, WrongArity, OutOfProfile}
 
 abbrev pub typing_number : TypingRule → ℕ
 typing_number UnknownName = 301

@@ -1,6 +1,6 @@
 -- The typed form of a buffer (HLSL Shader Model 6.8, buffers; the limit on their number is own).
 use Rattle.std.specs.Prelude.{ℕ, Option, Some, None}
-use Rattle.wg_typing.specs.Maybe.{◌>>=◌}
+use Rattle.wg_words.specs.Maybe.{◌>>=◌}
 use Rattle.wg_typing.specs.Scope.{Context, named_type}
 use Rattle.wg_typing.specs.Sites.{Sites, nowhere, only}
 use Rattle.wg_typing.specs.Site.{Site, AtType}

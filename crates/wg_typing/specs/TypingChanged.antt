@@ -1,12 +1,8 @@
--- The parameters that an expression or a step changes, in whole or in part: as targets, and as arguments that are given back. Own.
+-- The variables that an expression or a step changes, in whole or in part: as targets, and as arguments that are given back. Own.
 use Rattle.std.specs.Prelude.{ℕ, ◌++◌, if◌then◌else◌, List, [], ◌∷◌, Option, Some, None}
-use Rattle.wg_typing.specs.Layers.{FormLayer, member, method, index, Part, TypedPart, typed_part}
-use Rattle.wg_typing.specs.TypingCallee.{CalledName, plain, entry, itself, builtin, broken, unknown, on_numbers, interlocked, levels, barrier, barrier_of}
-use Rattle.wg_typing.specs.TypingForms.{Along, at_typed, at_other}
-use Rattle.wg_typing.specs.TypingInterlocked.{Operands, operands}
-use Rattle.wg_typing.specs.TypingObjects.{Method, method_of}
-use Rattle.wg_typing.specs.TypingObjects as m
-use Rattle.wg_typing.specs.Site.{Event, changes}
+use Rattle.wg_typing.specs.Layers.{typed_part}
+use Rattle.wg_typing.specs.TypingInterlocked.{operands}
+use Rattle.wg_typing.specs.TypingObjects.{method_of}
 use Rattle.wg_typed.specs.declared.typed_expr.TypedExpr.{TypedExpr}
 use Rattle.wg_typed.specs.declared.typed_expr.Access.TheFolds.{fold-TypedExpr}
 use Rattle.wg_typed.specs.declared.typed_expr.Access.TheOpen.{TypedExpr-F, TypedKind-F, Access-F, TypedLink-F}
@@ -15,12 +11,25 @@ use Rattle.wg_typing.specs.declared.scope.FormalParameter.{FormalParameter}
 use Rattle.wg_typing.specs.declared.scope.Object.{Object}
 use Rattle.wg_typing.specs.declared.scope.Value.TheVariants as value
 use Rattle.wg_typing.specs.TypingFunctionCall.{is_given_back}
+use Rattle.wg_typing.specs.declared.part.FormLayer.{FormLayer}
+use Rattle.wg_typing.specs.declared.part.Part.{Part}
+use Rattle.wg_typing.specs.declared.part.TypedPart.{TypedPart}
+use Rattle.wg_typing.specs.declared.called.CalledName.{CalledName}
+use Rattle.wg_typing.specs.declared.part.Along.{Along}
+use Rattle.wg_typing.specs.declared.part.Operands.{Operands}
+use Rattle.wg_typing.specs.declared.called.Method.{Method}
+use Rattle.wg_typing.specs.declared.event.Event.{Event}
+use Rattle.wg_typing.specs.declared.called.Method.TheVariants as method
+use Rattle.wg_typing.specs.declared.part.FormLayer.TheVariants as form_layer
+use Rattle.wg_typing.specs.declared.called.CalledName.TheVariants as called_name
+use Rattle.wg_typing.specs.declared.called.Builtin.TheVariants as builtin
+use Rattle.wg_typing.specs.declared.part.Along.TheVariants as along
+use Rattle.wg_typing.specs.declared.event.Event.TheVariants as event
 
--- the parameter of which a place is a part
+-- the variable of which a place is a part
 abbrev pub root_kind : TypedKind-F (Unit {0}) (Option ℕ) (Option ℕ) (Unit {0}) → Option ℕ
 root_kind (TypedKind-F.Literal words) = None
-root_kind (TypedKind-F.Local local) = None
-root_kind (TypedKind-F.Parameter parameter) = Some parameter
+root_kind (TypedKind-F.Variable variable) = Some variable
 root_kind (TypedKind-F.Shared variable) = None
 root_kind (TypedKind-F.Element buffer i) = None
 root_kind (TypedKind-F.Load buffer address) = None
@@ -54,7 +63,7 @@ root = fold-TypedExpr (Unit {0}) (Option ℕ) (Option ℕ) (Unit {0}) root_form 
 
 abbrev pub changed_if : Option ℕ → List Event
 changed_if None = []
-changed_if (Some parameter) = changes parameter ∷ []
+changed_if (Some variable) = event.Changes variable ∷ []
 
 abbrev pub changed_typed : Option TypedPart → List Event
 changed_typed None = []
@@ -72,7 +81,7 @@ given_back [] parts = []
 given_back (a ∷ parameters) [] = []
 given_back (a ∷ parameters) (p ∷ parts) = (if is_given_back a.direction then changed p else []) ++ given_back parameters parts
 
-abbrev pub old_changed : Option Operands → List Event
+abbrev pub old_changed : Option (Operands Part) → List Event
 old_changed None = []
 old_changed (Some o) = changed_there o.old
 
@@ -82,38 +91,38 @@ interlocked_changes f [] = []
 interlocked_changes f (to ∷ parts) = old_changed (operands f parts)
 
 abbrev pub call_changes : CalledName → List Part → List Event
-call_changes (plain number result parameters chain) parts = given_back parameters parts
-call_changes entry parts = []
-call_changes itself parts = []
-call_changes (builtin (on_numbers i)) parts = []
-call_changes (builtin (interlocked f)) parts = interlocked_changes f parts
-call_changes (builtin levels) parts = []
-call_changes (builtin (barrier syncs)) parts = []
-call_changes (builtin barrier_of) parts = []
-call_changes broken parts = []
-call_changes unknown parts = []
+call_changes (called_name.Plain number result parameters chain) parts = given_back parameters parts
+call_changes called_name.Entry parts = []
+call_changes called_name.Itself parts = []
+call_changes (called_name.Builtin (builtin.OnNumbers i)) parts = []
+call_changes (called_name.Builtin (builtin.Interlocked f)) parts = interlocked_changes f parts
+call_changes (called_name.Builtin builtin.Levels) parts = []
+call_changes (called_name.Builtin (builtin.Barrier syncs)) parts = []
+call_changes (called_name.Builtin builtin.BarrierOf) parts = []
+call_changes called_name.Broken parts = []
+call_changes called_name.Unknown parts = []
 
 abbrev pub method_changes : Option Method → List Part → List Event
-method_changes (Some (m.load n)) parts = []
-method_changes (Some (m.store n)) parts = []
-method_changes (Some (m.interlocked f)) parts = interlocked_changes f parts
-method_changes (Some m.get) parts = []
-method_changes (Some m.count) parts = []
-method_changes (Some (m.request group)) parts = []
-method_changes (Some (m.increment group)) parts = []
-method_changes (Some m.is_valid) parts = []
-method_changes (Some m.complete) parts = []
-method_changes (Some m.finished) parts = []
+method_changes (Some (method.Load n)) parts = []
+method_changes (Some (method.Store n)) parts = []
+method_changes (Some (method.Interlocked f)) parts = interlocked_changes f parts
+method_changes (Some method.Get) parts = []
+method_changes (Some method.Count) parts = []
+method_changes (Some (method.Request group)) parts = []
+method_changes (Some (method.Increment group)) parts = []
+method_changes (Some method.IsValid) parts = []
+method_changes (Some method.Complete) parts = []
+method_changes (Some method.Finished) parts = []
 method_changes None parts = []
 
 abbrev pub object_changes : Object → FormLayer Part → List Event
-object_changes o (member name) = []
-object_changes o (method name parts) = method_changes (method_of o name.name) parts
-object_changes o (index p) = []
+object_changes o (form_layer.Member name) = []
+object_changes o (form_layer.Method name parts) = method_changes (method_of o name.name) parts
+object_changes o (form_layer.Index p) = []
 
 abbrev pub form_changes : Along → FormLayer Part → List Event
-form_changes (at_typed r) f = []
-form_changes (at_other (value.Typed of standing tree)) f = []
-form_changes (at_other (value.Object o)) f = object_changes o f
-form_changes (at_other (value.Act name a)) f = []
-form_changes (at_other (value.Text bytes)) f = []
+form_changes (along.Typed r) f = []
+form_changes (along.Other (value.Typed of standing tree)) f = []
+form_changes (along.Other (value.Object o element)) f = object_changes o f
+form_changes (along.Other (value.Act name a)) f = []
+form_changes (along.Other (value.Text bytes)) f = []

@@ -1,6 +1,6 @@
 -- Static constants (HLSL Shader Model 6.8; that their values are constants of the text is own).
 use Rattle.std.specs.Prelude.{replicate, Option, Some, None, unwrap_or}
-use Rattle.wg_typing.specs.Maybe.{◌>>=◌}
+use Rattle.wg_words.specs.Maybe.{◌>>=◌}
 use Rattle.wg_typed.specs.Constants.{const_value, const_as, const_words, number_as}
 use Rattle.wg_typing.specs.Scope.{Context, as_const, known_names, named_type}
 use Rattle.wg_typing.specs.Layers.{fit}

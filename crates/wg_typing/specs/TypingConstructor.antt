@@ -1,14 +1,18 @@
 -- Constructors of scalars and vectors (HLSL Shader Model 6.8).
 use Rattle.std.specs.Prelude.{ℕ, ◌+◌, ◌==◌, List, [], ◌∷◌, map, Option, Some, None, Bool, true, false, not, ◌&&◌, is_some}
 use Rattle.wg_words.specs.declared.place.Place.{Place}
-use Rattle.wg_typing.specs.Maybe.{◌>>=◌, where_true}
-use Rattle.wg_typing.specs.Conversions.{Numbers, type_of, numbers}
-use Rattle.wg_typing.specs.Layers.{Part, all_typed_parts, fixed, TypedPart}
+use Rattle.wg_words.specs.Maybe.{◌>>=◌}
+use Rattle.wg_typing.specs.Maybe.{where_true}
+use Rattle.wg_typing.specs.Conversions.{type_of, numbers}
+use Rattle.wg_typing.specs.Layers.{all_typed_parts, fixed}
 use Rattle.wg_typing.specs.TypingIntrinsic.{all_numbers, convert_all}
 use Rattle.wg_typed.specs.declared.typed_expr.TypedKind.TheVariants as tree
 use Rattle.wg_typing.specs.declared.scope.Value.{Value}
 use Rattle.wg_typed.specs.Operators.{is_wide}
 use Rattle.wg_typed.specs.declared.types.TypeTree.{TypeTree}
+use Rattle.wg_typing.specs.declared.numbers.Numbers.{Numbers}
+use Rattle.wg_typing.specs.declared.part.Part.{Part}
+use Rattle.wg_typing.specs.declared.part.TypedPart.{TypedPart}
 
 abbrev pub components : Option ℕ → ℕ
 components None = 1

@@ -1,6 +1,7 @@
 -- Declarations of locals (HLSL Shader Model 6.8, declarations).
-use Rattle.std.specs.Prelude.{Bool, List, [], ◌∷◌, ◌++◌, length, is_some, Option, Some, None, if◌then◌else◌, ◌&&◌}
-use Rattle.wg_typing.specs.Maybe.{◌>>=◌, if_there, where_true}
+use Rattle.std.specs.Prelude.{ℕ, Bool, List, [], ◌∷◌, ◌++◌, length, map, is_some, Option, Some, None, if◌then◌else◌, ◌&&◌}
+use Rattle.wg_words.specs.Maybe.{◌>>=◌}
+use Rattle.wg_typing.specs.Maybe.{if_there, listed, where_true}
 use Rattle.wg_typed.specs.Layout.{words_of}
 use Rattle.wg_typing.specs.Scope.{Context, own_names, declare, named_type, once}
 use Rattle.wg_typing.specs.Sites.{Sites, nowhere, only, ◌&◌}
@@ -11,12 +12,15 @@ use Rattle.wg_tree.specs.declared.stmt.Declaration.{Declaration}
 use Rattle.wg_tree.specs.declared.stmt.Declarator.{Declarator}
 use Rattle.wg_typed.specs.declared.types.TypeTree.{TypeTree}
 use Rattle.wg_typed.specs.declared.typed_stmt.TypedDeclarator.{TypedDeclarator}
+use Rattle.wg_typing.specs.declared.context.VariableForm.{VariableForm}
+use Rattle.wg_typing.specs.declared.scope.Meant.{Meant}
 use Rattle.wg_typing.specs.declared.scope.Meant.TheVariants as meant
 use Rattle.wg_typing.specs.Named.{is_among}
 use Rattle.wg_words.specs.declared.place.Place.{Place}
 use Rattle.wg_typing.specs.Conversions.{same_type, truth_type}
 use Rattle.wg_typing.specs.Layers.{tree_of, typed_at, convert}
 use Rattle.wg_typing.specs.TypingExpr.{part, sites_of}
+use Rattle.wg_typing.specs.PartSites.{goal_if}
 use Rattle.wg_tree.specs.declared.expr.Expr.{Expr}
 use Rattle.wg_typed.specs.declared.typed_expr.TypedExpr.{TypedExpr}
 use Rattle.wg_typed.specs.declared.typed_expr.TypedKind.TheVariants as tree
@@ -39,16 +43,22 @@ start_there c goal e = goal >>= (λ goal. e >>= start_of c goal)
 
 abbrev pub start_sites_of : Context → Option TypeTree → Option Expr → Sites Site
 start_sites_of c goal None = nowhere
-start_sites_of c goal (Some e) = sites_of c e & only (AtStart c goal e)
+start_sites_of c goal (Some e) = sites_of c e & only (AtStart goal (part c e)) & goal_if goal (part c e)
 
 -- ---- locals
 
--- a local of a type takes the next number
+-- what a local means, as the variable of a number
+abbrev pub local_meant : ℕ → Bool → Option TypeTree → Meant
+local_meant number constant None = meant.Broken
+local_meant number constant (Some of) = meant.Variable number of constant
+
+abbrev pub local_form : Bool → Option TypedExpr → TypeTree → VariableForm
+local_form constant v of = record { of = of; system = None; constant = constant; value = v }
+
+-- a local of a type is the variable of the next number
 abbrev pub with_local : Named → Bool → Option TypeTree → Option TypedExpr → Context → Context
-with_local name constant None v c = declare name meant.Broken c
-with_local name constant (Some of) v c = record (declare name (meant.Local (length c.locals) of constant) c) {
-  locals = c.locals ++ record { of = of; constant = constant; value = v } ∷ [];
-}
+with_local name constant of v c =
+    record (declare name (local_meant (length c.variables) constant of) c) { variables = c.variables ++ map (local_form constant v) (listed of) }
 
 abbrev pub local_site : Context → Named → Option TypeTree → Sites Site
 local_site c name None = nowhere
@@ -66,7 +76,7 @@ abbrev pub declarator_tree : Option TypeTree → Declarator → Context → Opti
 declarator_tree of d c = do
   local ← declared_type c of d.size
   start ← if_there (start_of c local) d.value
-  Some (record { local = length c.locals; of = local; value = start })
+  Some (record { variable = length c.variables; of = local; value = start })
 
 abbrev pub declarators_after : Bool → Option TypeTree → List Declarator → Context → Context
 declarators_after constant of [] c = c

@@ -1,15 +1,17 @@
 -- Types that are declared, with their sizes and limits, and expressions that have to convert (HLSL Shader Model 6.8; the limits are own).
 use Rattle.std.specs.Prelude.{ℕ, nat_le, List, Option, Some, None}
-use Rattle.wg_typing.specs.Maybe.{◌>>=◌, where_true}
+use Rattle.wg_words.specs.Maybe.{◌>>=◌}
+use Rattle.wg_typing.specs.Maybe.{where_true}
 use Rattle.wg_typing.specs.Conversions.{uint_type, truth_type, element_of}
 use Rattle.wg_typed.specs.Layout.{words_of}
 use Rattle.wg_typed.specs.Constants.{const_value}
 use Rattle.wg_typing.specs.Scope.{Context, as_const, known_names}
 use Rattle.wg_typing.specs.Layers.{typed_part, fit}
-use Rattle.wg_typing.specs.TypingExpr.{part, sites_of}
+use Rattle.wg_typing.specs.TypingExpr.{part, sites_of_value}
+use Rattle.wg_typing.specs.PartSites.{goal_if}
 use Rattle.wg_typing.specs.AttributeArguments.{is_positive}
 use Rattle.wg_typing.specs.Sites.{Sites, nowhere, only, ◌&◌}
-use Rattle.wg_typing.specs.Site.{Site, AtWanted, AtConst, AtName, AtSize, AtLimit}
+use Rattle.wg_typing.specs.Site.{Site, AtConst, AtName, AtSize, AtLimit}
 use Rattle.wg_tree.specs.declared.expr.Named.{Named}
 use Rattle.wg_tree.specs.declared.expr.Expr.{Expr}
 use Rattle.wg_typed.specs.declared.types.ConstValue.{ConstValue}
@@ -49,7 +51,7 @@ limit_site c name None = nowhere
 limit_site c name (Some t) = only (AtLimit name (words_of c.structs t) type_limit)
 
 abbrev pub wanted_sites : Context → Option TypeTree → Expr → Sites Site
-wanted_sites c goal e = sites_of c e & only (AtWanted c goal e)
+wanted_sites c goal e = sites_of_value c e & goal_if goal (part c e)
 
 abbrev pub fit_in : Context → TypeTree → Expr → Option TypedExpr
 fit_in c goal e = fit goal (part c e)
@@ -60,7 +62,7 @@ condition_sites c e = wanted_sites c (Some truth_type) e
 
 -- a `const` of a type, in the context around it
 abbrev pub const_sites : Context → Option TypeTree → Expr → Sites Site
-const_sites c goal e = wanted_sites (as_const c) goal e & only (AtConst c e)
+const_sites c goal e = wanted_sites (as_const c) goal e & only (AtConst (const_value (known_names c.names) e) (part (as_const c) e))
 
 -- the size of an array is a number
 abbrev pub size_sites : Context → Named → Option Expr → Sites Site

@@ -1,19 +1,20 @@
 -- The typed form of an expression, and its sites: a fold over one layer of the tree (HLSL Shader Model 6.8, expressions).
-use Rattle.std.specs.Prelude.{ℕ, if◌then◌else◌, List, [], ◌∷◌, map, Option, Some, None}
+use Rattle.std.specs.Prelude.{ℕ, is_none, if◌then◌else◌, List, [], ◌∷◌, map, Option, Some, None}
 use Rattle.wg_words.specs.declared.place.Place.{Place}
-use Rattle.wg_typing.specs.Maybe.{◌>>=◌}
+use Rattle.wg_words.specs.Maybe.{◌>>=◌}
 use Rattle.wg_typing.specs.Conversions.{numbers, of_value_type}
-use Rattle.wg_typing.specs.Scope.{Context, Around, look}
-use Rattle.wg_typing.specs.Layers.{Layer, FormLayer, member, method, index, LinkLayer, map_layer, Part, call_of, map_link}
-use Rattle.wg_typing.specs.TypingCallee.{CalledName, plain, entry, itself, builtin, broken, unknown, on_numbers, interlocked, levels, barrier, barrier_of, callee}
+use Rattle.wg_typing.specs.Scope.{Context, look}
+use Rattle.wg_typing.specs.Layers.{map_form, typed_part, Layer, map_layer, call_of, map_link}
+use Rattle.wg_typing.specs.TypingCallee.{callee}
 use Rattle.wg_typing.specs.TypingCalls.{call_value}
 use Rattle.wg_typing.specs.TypingConstructor.{constructed}
 use Rattle.wg_typing.specs.Sites.{Sites, nowhere, only, ◌&◌, all_sites}
-use Rattle.wg_typing.specs.Site.{Site, AtExpr, AtValue, AtForm, AtLink, AtFlag}
+use Rattle.wg_typing.specs.Site.{Site, AtNamed, AtValue, AtCall, AtNumber, AtForm, AtType, AtUsed}
 use Rattle.wg_typing.specs.TypingName.{number_value, truth_value, named_value}
-use Rattle.wg_typing.specs.TypingOperators.{typed_of, run_type, prefix_value, cast_value, zeros_value, choice_value, chain_value}
-use Rattle.wg_typing.specs.TypingForms.{Along, begun, form_on, postfix_value}
-use Rattle.wg_typing.specs.RulesShared.{value_parts}
+use Rattle.wg_typing.specs.TypingOperators.{typed_of, type_after, prefix_value, cast_value, zeros_value, choice_value, chain_value}
+use Rattle.wg_typing.specs.TypingForms.{begun, form_on, postfix_value}
+use Rattle.wg_typing.specs.PartSites.{part_site, goal_site, link_site, choice_sites, construct_sites, call_sites, form_sites}
+use Rattle.wg_tree.specs.declared.expr.TypeName.TheVariants as type_name
 use Rattle.wg_typing.specs.TypingFlags.{layer_pieces, are_flags}
 use Rattle.wg_tree.specs.declared.expr.Named.{Named}
 use Rattle.wg_tree.specs.declared.expr.Expr.{Expr, fold-Expr}
@@ -21,7 +22,16 @@ use Rattle.wg_tree.specs.declared.expr.Expr.TheOpen.{Expr-F, Form-F, Link-F}
 use Rattle.wg_typed.specs.declared.types.TypeTree.{TypeTree}
 use Rattle.wg_typing.specs.declared.scope.Value.{Value}
 use Rattle.wg_typing.specs.declared.scope.Value.TheVariants as value
-use Rattle.wg_typing.specs.TypingCalled.{layer_called}
+use Rattle.wg_typing.specs.TypingCalled.{layer_called, broken_call, form_called}
+use Rattle.wg_typing.specs.declared.context.Around.{Around}
+use Rattle.wg_typing.specs.declared.part.FormLayer.{FormLayer}
+use Rattle.wg_typing.specs.declared.part.LinkLayer.{LinkLayer}
+use Rattle.wg_typing.specs.declared.part.Part.{Part}
+use Rattle.wg_typing.specs.declared.called.CalledName.{CalledName}
+use Rattle.wg_typing.specs.declared.part.Along.{Along}
+use Rattle.wg_typing.specs.declared.part.FormLayer.TheVariants as form_layer
+use Rattle.wg_typing.specs.declared.called.CalledName.TheVariants as called_name
+use Rattle.wg_typing.specs.declared.called.Builtin.TheVariants as builtin
 
 -- the typed form of an expression whose parts have these; none where a part has none or a rule is broken
 abbrev pub layer_value : Context → Place → Layer Part → Option Value
@@ -67,48 +77,21 @@ first_token (Expr-F.Postfix first forms) = first.place
 first_token (Expr-F.Chain first rest) = first.place
 first_token (Expr-F.Choice test a b) = test.place
 
-abbrev pub sites_of_all : List ExprForm → Sites Site
-sites_of_all expr_form = all_sites (map (λ (s : ExprForm). s.sites) expr_form)
+-- an expression that has to be a value
+abbrev pub value_sites : Around → ExprForm → Sites Site
+value_sites around s = s.sites & only (AtValue around s.part)
+
+abbrev pub values_sites : Around → List ExprForm → Sites Site
+values_sites around [] = nowhere
+values_sites around (s ∷ rest) = value_sites around s & values_sites around rest
 
 abbrev pub flag_sites_of_all : List ExprForm → Sites Site
-flag_sites_of_all expr_form = all_sites (map (λ (s : ExprForm). s.flag_sites) expr_form)
-
-abbrev pub form_sites : FormLayer ExprForm → Sites Site
-form_sites (member name) = nowhere
-form_sites (method name arguments) = sites_of_all arguments
-form_sites (index at) = at.sites
-
-abbrev pub link_sites : LinkLayer ExprForm → Sites Site
-link_sites l = l.operand.sites
+flag_sites_of_all arguments = all_sites (map (λ (s : ExprForm). s.flag_sites) arguments)
 
 -- the arguments of `Barrier` are read as flags
-abbrev pub argument_sites : CalledName → List ExprForm → Sites Site
-argument_sites (plain number result parameters chain) arguments = sites_of_all arguments
-argument_sites entry arguments = sites_of_all arguments
-argument_sites itself arguments = sites_of_all arguments
-argument_sites (builtin (on_numbers i)) arguments = sites_of_all arguments
-argument_sites (builtin (interlocked f)) arguments = sites_of_all arguments
-argument_sites (builtin levels) arguments = sites_of_all arguments
-argument_sites (builtin (barrier syncs)) arguments = sites_of_all arguments
-argument_sites (builtin barrier_of) arguments = flag_sites_of_all arguments
-argument_sites broken arguments = sites_of_all arguments
-argument_sites unknown arguments = sites_of_all arguments
-
--- the sites of the parts
-abbrev pub inner_sites : Context → Layer ExprForm → Sites Site
-inner_sites c (Expr-F.Number at n unsigned long) = nowhere
-inner_sites c (Expr-F.Text at bytes) = nowhere
-inner_sites c (Expr-F.Truth at b) = nowhere
-inner_sites c (Expr-F.Name name) = nowhere
-inner_sites c (Expr-F.Call name arguments) = argument_sites (callee c name) arguments
-inner_sites c (Expr-F.Construct at of arguments) = sites_of_all arguments
-inner_sites c (Expr-F.Bracket at inner) = inner.sites
-inner_sites c (Expr-F.Prefix at operator operand) = operand.sites
-inner_sites c (Expr-F.Cast at to operand) = operand.sites
-inner_sites c (Expr-F.Zeros at of) = nowhere
-inner_sites c (Expr-F.Postfix first forms) = first.sites & all_sites (map form_sites forms)
-inner_sites c (Expr-F.Chain first rest) = first.sites & all_sites (map link_sites rest)
-inner_sites c (Expr-F.Choice test a b) = test.sites & a.sites & b.sites
+abbrev pub given_sites : Around → CalledName → List ExprForm → Sites Site
+given_sites around (called_name.Builtin builtin.BarrierOf) arguments = flag_sites_of_all arguments
+given_sites around _ arguments = values_sites around arguments
 
 abbrev pub link_flag_sites : LinkLayer ExprForm → Sites Site
 link_flag_sites l = l.operand.flag_sites
@@ -156,49 +139,63 @@ layer_part c layer = record {
   pieces = layer_pieces c (layer_value c (first_token layer) layer) layer;
 }
 
--- each part that has to be a value
-abbrev pub values_at : Around → List Part → Sites Site
-values_at around [] = nowhere
-values_at around (p ∷ rest) = only (AtValue around p) & values_at around rest
+-- ---- the sites of a layer
 
--- each form after a value, with what stands before it; of one after a broken one no rule says anything
-abbrev pub forms_at : Context → Place → Option Along → List (FormLayer Part) → Sites Site
-forms_at c place None forms = nowhere
-forms_at c place (Some a) [] = nowhere
-forms_at c place (Some a) (f ∷ rest) = only (AtForm c place a f) & forms_at c place (form_on c place a f) rest
+-- the operators of a chain, each with the type of what stands before it
+abbrev pub links_sites : Around → Place → Option TypeTree → List (LinkLayer ExprForm) → Sites Site
+links_sites around place before [] = nowhere
+links_sites around place before (l ∷ rest) =
+    value_sites around l.operand & link_site place before l.operator (typed_part l.operand.part)
+    & links_sites around place (type_after before (map_link part_of l)) rest
 
--- each operator of a chain, with the type of what stands before it; of one after a broken one no rule says anything
-abbrev pub links_at : Place → Option TypeTree → List (LinkLayer Part) → Sites Site
-links_at place None rest = nowhere
-links_at place (Some of) [] = nowhere
-links_at place (Some of) (l ∷ rest) = only (AtLink place of l) & links_at place (run_type of l) rest
+abbrev pub form_values : Around → FormLayer ExprForm → Sites Site
+form_values around (form_layer.Member name) = nowhere
+form_values around (form_layer.Method name arguments) = values_sites around arguments
+form_values around (form_layer.Index at) = value_sites around at
 
--- the sites between the parts of a layer
-abbrev pub steps_at : Context → Place → Layer Part → Sites Site
-steps_at c place (Expr-F.Number at n unsigned long) = nowhere
-steps_at c place (Expr-F.Text at bytes) = nowhere
-steps_at c place (Expr-F.Truth at b) = nowhere
-steps_at c place (Expr-F.Name name) = nowhere
-steps_at c place (Expr-F.Call name parts) = nowhere
-steps_at c place (Expr-F.Construct at of parts) = nowhere
-steps_at c place (Expr-F.Bracket at inner) = nowhere
-steps_at c place (Expr-F.Prefix at operator operand) = nowhere
-steps_at c place (Expr-F.Cast at to operand) = nowhere
-steps_at c place (Expr-F.Zeros at of) = nowhere
-steps_at c place (Expr-F.Postfix first forms) = forms_at c place (begun first) forms
-steps_at c place (Expr-F.Chain first rest) = links_at place (typed_of first) rest
-steps_at c place (Expr-F.Choice test a b) = nowhere
+-- of a form after a broken one no rule says anything
+abbrev pub form_at : Context → Place → Option Along → FormLayer Part → Sites Site
+form_at c place None f = nowhere
+form_at c place (Some a) f = only (AtForm c place a f) & form_sites a f
 
--- a layer's own sites
-abbrev pub own_sites : Context → Layer Part → Sites Site
-own_sites c layer = values_at c.around (value_parts c layer) & steps_at c (first_token layer) layer & only (AtExpr c (first_token layer) layer)
+-- what stands after one form more
+abbrev pub form_after : Context → Place → Option Along → FormLayer Part → Option Along
+form_after c place a f = a >>= (λ a. form_on c place a f)
+
+-- a call with broken arguments, where a form follows
+abbrev pub used_before : Context → Place → Option Along → FormLayer Part → List (FormLayer ExprForm) → Sites Site
+used_before c place None f rest = nowhere
+used_before c place (Some a) f [] = nowhere
+used_before c place (Some a) f (g ∷ rest) = if is_none (form_on c place a f) then only (AtUsed (form_called a f)) else nowhere
+
+-- the forms after a value, each with what stands before it
+abbrev pub forms_sites : Context → Place → Option Along → List (FormLayer ExprForm) → Sites Site
+forms_sites c place a [] = nowhere
+forms_sites c place a (f ∷ rest) =
+    form_values c.around f & form_at c place a (map_form part_of f) & used_before c place a (map_form part_of f) rest
+    & forms_sites c place (form_after c place a (map_form part_of f)) rest
 
 abbrev pub layer_sites : Context → Layer ExprForm → Sites Site
-layer_sites c layer = inner_sites c layer & own_sites c (map_layer part_of layer)
+layer_sites c (Expr-F.Number at n unsigned long) = nowhere
+layer_sites c (Expr-F.Text at bytes) = nowhere
+layer_sites c (Expr-F.Truth at b) = nowhere
+layer_sites c (Expr-F.Name name) = only (AtNamed c.around name (look name.name c.names))
+layer_sites c (Expr-F.Call name arguments) =
+    given_sites c.around (callee c name) arguments & only (AtCall c.around name.place (callee c name) (map part_of arguments))
+    & call_sites c name.place (callee c name) (map part_of arguments)
+layer_sites c (Expr-F.Construct at of arguments) = values_sites c.around arguments & construct_sites at of (map part_of arguments)
+layer_sites c (Expr-F.Bracket at inner) = inner.sites
+layer_sites c (Expr-F.Prefix at operator operand) = value_sites c.around operand & part_site AtNumber operand.part
+layer_sites c (Expr-F.Cast at to operand) = value_sites c.around operand & goal_site (of_value_type to) operand.part
+layer_sites c (Expr-F.Zeros at of) = only (AtType c (type_name.Struct of))
+layer_sites c (Expr-F.Postfix first forms) = first.sites & only (AtUsed (broken_call first.part)) & forms_sites c first.part.place (begun first.part) forms
+layer_sites c (Expr-F.Chain first rest) = value_sites c.around first & links_sites c.around first.part.place (typed_of first.part) rest
+layer_sites c (Expr-F.Choice test a b) =
+    value_sites c.around test & value_sites c.around a & value_sites c.around b & choice_sites test.part.place test.part a.part b.part
 
 -- The arguments of a barrier are no values, so what one is that is no flag is looked at here: it may be an output call, or a barrier.
 abbrev pub no_flag_sites : Context → Layer ExprForm → Sites Site
-no_flag_sites c layer = layer_sites c layer & only (AtFlag (call_of (layer_part c (map_layer part_of layer))))
+no_flag_sites c layer = layer_sites c layer & only (AtUsed (call_of (layer_part c (map_layer part_of layer))))
 
 abbrev pub expr_seen : Context → Layer ExprForm → ExprForm
 expr_seen c layer = record {
@@ -209,9 +206,9 @@ expr_seen c layer = record {
 }
 
 abbrev pub form_seen : Form-F ExprForm (FormLayer ExprForm) (LinkLayer ExprForm) → FormLayer ExprForm
-form_seen (Form-F.Member name) = member name
-form_seen (Form-F.Method name arguments) = method name arguments
-form_seen (Form-F.Index place at) = index at
+form_seen (Form-F.Member name) = form_layer.Member name
+form_seen (Form-F.Method name arguments) = form_layer.Method name arguments
+form_seen (Form-F.Index place at) = form_layer.Index at
 
 abbrev pub link_seen : Link-F ExprForm (FormLayer ExprForm) (LinkLayer ExprForm) → LinkLayer ExprForm
 link_seen l = record { operator = l.operator; operand = l.operand }
@@ -225,3 +222,7 @@ part c e = (expr_form c e).part
 
 abbrev pub sites_of : Context → Expr → Sites Site
 sites_of c e = (expr_form c e).sites
+
+-- the same, of an expression that has to be a value
+abbrev pub sites_of_value : Context → Expr → Sites Site
+sites_of_value c e = value_sites c.around (expr_form c e)

@@ -2,11 +2,12 @@
 use Rattle.std.specs.Prelude.{ℕ, suc, ◌==◌, ◌&&◌, nat_lt, if◌then◌else◌, List, [], ◌∷◌, ◌++◌, length, map, slice_get, Option, Some, None}
 use Rattle.std.specs.Str.{bytes_eq}
 use Rattle.wg_words.specs.declared.place.Place.{Place}
-use Rattle.wg_typing.specs.Maybe.{◌>>=◌, where_true, all_of}
+use Rattle.wg_words.specs.Maybe.{◌>>=◌}
+use Rattle.wg_typing.specs.Maybe.{where_true, all_of}
 use Rattle.wg_typing.specs.Conversions.{uint_type}
 use Rattle.wg_typing.specs.Scope.{Context}
-use Rattle.wg_typing.specs.Layers.{FormLayer, member, method, index, Part, fit, tree_of}
-use Rattle.wg_typing.specs.TypingObjects.{Method, method_of, method_value, takes, element_value}
+use Rattle.wg_typing.specs.Layers.{fit, tree_of}
+use Rattle.wg_typing.specs.TypingObjects.{method_of, method_value, takes, element_value}
 use Rattle.wg_typed.specs.Layout.{element_type}
 use Rattle.wg_tree.specs.declared.expr.Scalar.{Scalar}
 use Rattle.wg_typed.specs.declared.types.TypeTree.{TypeTree}
@@ -22,44 +23,35 @@ use Rattle.wg_typing.specs.declared.scope.Standing.{Standing}
 use Rattle.wg_typing.specs.declared.scope.Standing.TheVariants as standing
 use Rattle.wg_typing.specs.declared.scope.Value.{Value}
 use Rattle.wg_typing.specs.declared.scope.Value.TheVariants as value
-
--- a value with the accesses after it that its typed form does not hold yet
-pub record Reached : Type 0 where
-  pub of : TypeTree
-  pub standing : Standing
-  pub base : TypedExpr
-  pub accesses : List Access
-
--- what the forms so far give: a value that has a type, or another one
-pub data Along : Type 0 where
-  at_typed : Reached → Along
-  at_other : Value → Along
+use Rattle.wg_typing.specs.declared.part.FormLayer.{FormLayer}
+use Rattle.wg_typing.specs.declared.part.Part.{Part}
+use Rattle.wg_typing.specs.declared.called.Method.{Method}
+use Rattle.wg_typing.specs.declared.part.Reached.{Reached}
+use Rattle.wg_typing.specs.declared.part.Along.{Along}
+use Rattle.wg_typing.specs.declared.part.FoundField.{FoundField}
+use Rattle.wg_typing.specs.declared.part.FormLayer.TheVariants as form_layer
+use Rattle.wg_typing.specs.declared.part.Along.TheVariants as along
 
 abbrev pub begin : Value → Along
-begin (value.Typed of s base) = at_typed (record { of = of; standing = s; base = base; accesses = [] })
-begin v = at_other v
+begin (value.Typed of s base) = along.Typed (record { of = of; standing = s; base = base; accesses = [] })
+begin v = along.Other v
 
 abbrev pub with_accesses : Place → TypeTree → TypedExpr → List Access → TypedExpr
 with_accesses place of base [] = base
 with_accesses place of base accesses = tree_of place of (tree.Access base accesses)
 
 abbrev pub finish : Place → Along → Value
-finish place (at_typed r) = value.Typed r.of r.standing (with_accesses place r.of r.base r.accesses)
-finish place (at_other v) = v
+finish place (along.Typed r) = value.Typed r.of r.standing (with_accesses place r.of r.base r.accesses)
+finish place (along.Other v) = v
 
 abbrev pub extended : Reached → TypeTree → Standing → Access → Option Along
-extended r of s a = Some (at_typed (record { of = of; standing = s; base = r.base; accesses = r.accesses ++ a ∷ [] }))
+extended r of s a = Some (along.Typed (record { of = of; standing = s; base = r.base; accesses = r.accesses ++ a ∷ [] }))
 
--- a field's number, and its type
-pub record Found : Type 0 where
-  pub number : ℕ
-  pub of : TypeTree
-
-abbrev pub field_from : ℕ → List ℕ → List TypedField → Option Found
+abbrev pub field_from : ℕ → List ℕ → List TypedField → Option FoundField
 field_from at name [] = None
 field_from at name (f ∷ rest) = if bytes_eq f.name.name name then Some (record { number = at; of = f.of }) else field_from (suc at) name rest
 
-abbrev pub struct_field : List ℕ → Option TypedStruct → Option Found
+abbrev pub struct_field : List ℕ → Option TypedStruct → Option FoundField
 struct_field name None = None
 struct_field name (Some s) = field_from 0 name s.fields
 
@@ -93,30 +85,30 @@ indexed (type.Vector of size) p r = None
 indexed (type.Struct number) p r = None
 indexed (type.Array of size) p r = fit uint_type p >>= (λ i. extended r (element_type of) r.standing (access.Index i (element_type of)))
 
-abbrev pub method_on : Place → Place → Object → List Part → Method → Option Along
-method_on place name o parts m = do
-  v ← where_true (takes o m parts) parts >>= method_value place name o m
+abbrev pub method_on : Place → Place → Object → Option TypedExpr → List Part → Method → Option Along
+method_on place name o element parts m = do
+  v ← where_true (takes o m parts) parts >>= method_value place name o element m
   Some (begin v)
 
-abbrev pub after_object : Place → Object → FormLayer Part → Option Along
-after_object place o (member name) = None
-after_object place o (method name parts) = method_of o name.name >>= method_on place name.place o parts
-after_object place o (index p) = do
+abbrev pub after_object : Place → Object → Option TypedExpr → FormLayer Part → Option Along
+after_object place o element (form_layer.Member name) = None
+after_object place o element (form_layer.Method name parts) = method_of o name.name >>= method_on place name.place o element parts
+after_object place o element (form_layer.Index p) = do
   v ← fit uint_type p >>= element_value place o
   Some (begin v)
 
 abbrev pub after_typed : List TypedStruct → Reached → FormLayer Part → Option Along
-after_typed structs r (member name) = member_of structs r.of name.name r
-after_typed structs r (method name parts) = None
-after_typed structs r (index p) = indexed r.of p r
+after_typed structs r (form_layer.Member name) = member_of structs r.of name.name r
+after_typed structs r (form_layer.Method name parts) = None
+after_typed structs r (form_layer.Index p) = indexed r.of p r
 
 -- what a form makes of what stands so far; the place is that of the first token of all
 abbrev pub form_on : Context → Place → Along → FormLayer Part → Option Along
-form_on c place (at_typed r) f = after_typed c.structs r f
-form_on c place (at_other (value.Typed of s base)) f = None
-form_on c place (at_other (value.Object o)) f = after_object place o f
-form_on c place (at_other (value.Act name act)) f = None
-form_on c place (at_other (value.Text bytes)) f = None
+form_on c place (along.Typed r) f = after_typed c.structs r f
+form_on c place (along.Other (value.Typed of s base)) f = None
+form_on c place (along.Other (value.Object o element)) f = after_object place o element f
+form_on c place (along.Other (value.Act name act)) f = None
+form_on c place (along.Other (value.Text bytes)) f = None
 
 abbrev pub forms_on : Context → Place → Along → List (FormLayer Part) → Option Along
 forms_on c place a [] = Some a

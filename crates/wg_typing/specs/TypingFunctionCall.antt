@@ -1,9 +1,10 @@
 -- Calls of plain functions (HLSL Shader Model 6.8, functions; the limit on chains of calls is own).
 use Rattle.std.specs.Prelude.{ℕ, Bool, not, ◌&&◌, nat_lt, List, [], ◌∷◌, Option, Some, None, true, false}
 use Rattle.wg_words.specs.declared.place.Place.{Place}
-use Rattle.wg_typing.specs.Maybe.{◌>>=◌, where_true}
+use Rattle.wg_words.specs.Maybe.{◌>>=◌}
+use Rattle.wg_typing.specs.Maybe.{where_true}
 use Rattle.wg_typing.specs.Conversions.{same_type}
-use Rattle.wg_typing.specs.Layers.{Part, typed_part, fit, fixed, act}
+use Rattle.wg_typing.specs.Layers.{typed_part, fit, fixed, act}
 use Rattle.wg_typing.specs.TypingInterlocked.{is_fixed}
 use Rattle.wg_tree.specs.declared.item.Direction.{Direction}
 use Rattle.wg_tree.specs.declared.item.Direction.TheVariants as direction
@@ -14,6 +15,7 @@ use Rattle.wg_typed.specs.declared.typed_stmt.TypedStep.TheVariants as step
 use Rattle.wg_typing.specs.declared.scope.FormalParameter.{FormalParameter}
 use Rattle.wg_typing.specs.declared.scope.Value.{Value}
 use Rattle.wg_typing.specs.declared.scope.Act.TheVariants as act_of
+use Rattle.wg_typing.specs.declared.part.Part.{Part}
 
 -- an argument of a plain function: a value that converts, or an assignable place of the same type
 abbrev pub passed_place : TypeTree → Part → Option TypedExpr

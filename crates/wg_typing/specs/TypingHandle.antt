@@ -1,6 +1,7 @@
 -- Objects with their record types, and handles of output records (DirectX-Specs, Work Graphs, node outputs; where a handle may stand is own).
-use Rattle.std.specs.Prelude.{ℕ, ◌==◌, Bool, true, false, not, ◌&&◌, if◌then◌else◌, [], ◌∷◌, ◌++◌, length, is_some, Option, Some, None}
-use Rattle.wg_typing.specs.Maybe.{◌>>=◌, where_true}
+use Rattle.std.specs.Prelude.{ℕ, ◌==◌, Bool, true, false, not, ◌&&◌, if◌then◌else◌, ◌++◌, length, map, is_some, Option, Some, None}
+use Rattle.wg_words.specs.Maybe.{◌>>=◌}
+use Rattle.wg_typing.specs.Maybe.{listed, where_true}
 use Rattle.wg_typed.specs.Layout.{words_of}
 use Rattle.wg_typing.specs.Scope.{Context, own_names, declare, named_type, once}
 use Rattle.wg_typing.specs.TypingExpr.{part, sites_of}
@@ -20,6 +21,7 @@ use Rattle.wg_typed.specs.declared.typed_expr.TypedExpr.{TypedExpr}
 use Rattle.wg_typed.specs.declared.typed_stmt.TypedStmt.{TypedStmt}
 use Rattle.wg_typed.specs.declared.typed_stmt.TypedStmt.TheVariants as t
 use Rattle.wg_typing.specs.declared.scope.Act.TheVariants as act
+use Rattle.wg_typing.specs.declared.scope.Meant.{Meant}
 use Rattle.wg_typing.specs.declared.scope.Meant.TheVariants as meant
 use Rattle.wg_typing.specs.declared.scope.Object.TheVariants as object
 use Rattle.wg_typing.specs.declared.scope.Value.{Value}
@@ -93,11 +95,15 @@ handle_request c of e = request_in (handle_word of.word) (handle_record c of) (p
 abbrev pub handle_tree : Named → Option RequestForm → Option TypedHandle
 handle_tree name r = r >>= (λ r. Some (record { name = name; group = r.group; output = r.output }))
 
+-- what a handle means, by its number and that of its record type
+abbrev pub handle_meant : ℕ → Option ℕ → Meant
+handle_meant handle None = meant.Broken
+handle_meant handle (Some number) = meant.Object (object.Handle handle number)
+
 -- a handle of a record type takes the next number
 abbrev pub with_handle : Named → Option ℕ → Option TypedHandle → Context → Context
-with_handle name None handle c = declare name meant.Broken c
-with_handle name (Some number) handle c =
-    record (declare name (meant.Object (object.Handle (length c.handles) number)) c) { handles = c.handles ++ handle ∷ [] }
+with_handle name number handle c =
+    record (declare name (handle_meant (length c.handles) number) c) { handles = c.handles ++ map (λ n. handle) (listed number) }
 
 abbrev pub handle_after : ObjectType → Named → Expr → Context → Context
 handle_after of name e c = once name c (with_handle name (handle_record c of) (handle_tree name (handle_request c of e)) c)
@@ -105,7 +111,7 @@ handle_after of name e c = once name c (with_handle name (handle_record c of) (h
 abbrev pub handle_sites : ObjectType → Named → Expr → Context → Sites Site
 handle_sites of name e c =
     sites_of c e & object_sites c (is_some (handle_word of.word) && is_some of.record_type) of name & only (AtName (own_names c) name)
-    & only (AtHandle c of name (handle_record c of) e)
+    & only (AtHandle c of.word name (handle_record c of) (part c e))
 
 abbrev pub request_stmt : Context → RequestForm → TypedStmt
 request_stmt c r = t.Request (length c.handles) r.group r.output r.element r.amount

@@ -3,9 +3,10 @@
 use Rattle.std.specs.Prelude.{ℕ, Bool, true, false, not, if◌then◌else◌, List, [], ◌∷◌, Option, Some, None, ◌||◌}
 use Prim.Native.String.{String}
 use Rattle.wg_words.specs.declared.place.Place.{Place}
-use Rattle.wg_typing.specs.Maybe.{◌>>=◌, where_true, if_there}
+use Rattle.wg_words.specs.Maybe.{◌>>=◌}
+use Rattle.wg_typing.specs.Maybe.{where_true, if_there}
 use Rattle.wg_typing.specs.Conversions.{is_word, same_type, uint_type, truth_type}
-use Rattle.wg_typing.specs.Layers.{Part, TypedPart, typed_part, fit, act}
+use Rattle.wg_typing.specs.Layers.{typed_part, fit, act}
 use Rattle.wg_tree.specs.declared.expr.Scalar.TheVariants as scalar
 use Rattle.wg_typed.specs.declared.types.TypeTree.{TypeTree}
 use Rattle.wg_typed.specs.declared.types.TypeTree.TheVariants as type
@@ -19,40 +20,37 @@ use Rattle.wg_typing.specs.declared.scope.Standing.{Standing}
 use Rattle.wg_typing.specs.declared.scope.Standing.TheVariants as standing
 use Rattle.wg_typing.specs.declared.scope.Value.{Value}
 use Rattle.wg_typing.specs.declared.scope.Act.TheVariants as act_of
+use Rattle.wg_typing.specs.declared.part.Part.{Part}
+use Rattle.wg_typing.specs.declared.part.TypedPart.{TypedPart}
+use Rattle.wg_typing.specs.declared.part.Operands.{Operands}
 
 abbrev pub interlocked_names : List (String × InterlockedForm)
 interlocked_names = ("InterlockedAdd", form.Add) ∷ ("InterlockedMin", form.Min) ∷ ("InterlockedMax", form.Max) ∷ ("InterlockedAnd", form.And)
     ∷ ("InterlockedOr", form.Or) ∷ ("InterlockedXor", form.Xor) ∷ ("InterlockedExchange", form.Exchange)
     ∷ ("InterlockedCompareExchange", form.CompareExchange) ∷ ("InterlockedCompareStore", form.CompareStore) ∷ []
 
--- the arguments after the destination
-pub record Operands : Type 0 where
-  pub compare : Option Part
-  pub value : Part
-  pub old : Option Part
-
-abbrev pub a_value_alone : List Part → Option Operands
+abbrev pub a_value_alone : {P : Type 0} → List P → Option (Operands P)
 a_value_alone (v ∷ []) = Some (record { compare = None; value = v; old = None })
 a_value_alone _ = None
 
-abbrev pub with_old : List Part → Option Operands
+abbrev pub with_old : {P : Type 0} → List P → Option (Operands P)
 with_old (v ∷ o ∷ []) = Some (record { compare = None; value = v; old = Some o })
 with_old _ = None
 
-abbrev pub maybe_old : List Part → Option Operands
+abbrev pub maybe_old : {P : Type 0} → List P → Option (Operands P)
 maybe_old (v ∷ []) = a_value_alone (v ∷ [])
 maybe_old parts = with_old parts
 
-abbrev pub compared : List Part → Option Operands
+abbrev pub compared : {P : Type 0} → List P → Option (Operands P)
 compared (c ∷ v ∷ []) = Some (record { compare = Some c; value = v; old = None })
 compared _ = None
 
-abbrev pub compared_with_old : List Part → Option Operands
+abbrev pub compared_with_old : {P : Type 0} → List P → Option (Operands P)
 compared_with_old (c ∷ v ∷ o ∷ []) = Some (record { compare = Some c; value = v; old = Some o })
 compared_with_old _ = None
 
 -- none where the form takes another number of arguments
-abbrev pub operands : InterlockedForm → List Part → Option Operands
+abbrev pub operands : {P : Type 0} → InterlockedForm → List P → Option (Operands P)
 operands form.Add parts = maybe_old parts
 operands form.Min parts = maybe_old parts
 operands form.Max parts = maybe_old parts
@@ -89,7 +87,7 @@ abbrev pub raw_type : TypeTree → TypeTree
 raw_type t = if is_int t || same_type t truth_type then type.Scalar scalar.Int else uint_type
 
 -- the form at a destination, on words of a type
-abbrev pub interlocked : Place → InterlockedForm → Destination → TypeTree → Operands → Option Value
+abbrev pub interlocked : Place → InterlockedForm → Destination → TypeTree → Operands Part → Option Value
 interlocked name f to by o = do
   compare ← if_there (fit by) o.compare
   value ← fit by o.value

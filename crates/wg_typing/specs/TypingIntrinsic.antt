@@ -2,9 +2,10 @@
 -- reckon in is own).
 use Rattle.std.specs.Prelude.{ℕ, ◌==◌, Bool, true, false, ◌&&◌, List, [], ◌∷◌, length, map, Option, Some, None}
 use Rattle.wg_words.specs.declared.place.Place.{Place}
-use Rattle.wg_typing.specs.Maybe.{◌>>=◌, where_true, all_of}
-use Rattle.wg_typing.specs.Conversions.{Numbers, numbers, type_of, is_number, is_uint, truths, common_size, chosen_scalar, size_fits}
-use Rattle.wg_typing.specs.Layers.{Part, TypedPart, all_typed_parts, convert, fixed}
+use Rattle.wg_words.specs.Maybe.{◌>>=◌}
+use Rattle.wg_typing.specs.Maybe.{where_true, all_of}
+use Rattle.wg_typing.specs.Conversions.{numbers, type_of, is_number, is_uint, truths, common_size, chosen_scalar, size_fits}
+use Rattle.wg_typing.specs.Layers.{all_typed_parts, convert, fixed}
 use Rattle.wg_tree.specs.declared.expr.Scalar.TheVariants as scalar
 use Rattle.wg_typed.specs.declared.types.TypeTree.{TypeTree}
 use Rattle.wg_typed.specs.declared.typed_expr.Intrinsic.{Intrinsic}
@@ -14,6 +15,10 @@ use Rattle.wg_typed.specs.declared.typed_expr.TypedKind.TheVariants as tree
 use Rattle.wg_typing.specs.declared.scope.Value.{Value}
 use Rattle.wg_tree.specs.declared.expr.Scalar.{Scalar}
 use Rattle.wg_typed.specs.Operators.{counted, common_scalar}
+use Rattle.wg_typing.specs.declared.numbers.Numbers.{Numbers}
+use Rattle.wg_typing.specs.declared.part.Part.{Part}
+use Rattle.wg_typing.specs.declared.part.TypedPart.{TypedPart}
+use Rattle.wg_typing.specs.declared.numbers.Signature.{Signature}
 
 abbrev pub arity_of : Intrinsic → ℕ
 arity_of intrinsic.Min = 2
@@ -85,11 +90,6 @@ abbrev pub scalar_of_all : List Numbers → Scalar
 scalar_of_all [] = scalar.Int
 scalar_of_all (n ∷ []) = counted n.of
 scalar_of_all (n ∷ m ∷ rest) = common_scalar n.of (scalar_of_all (m ∷ rest))
-
--- the types to which the arguments are converted, and that of the result
-pub record Signature : Type 0 where
-  pub arguments : List Numbers
-  pub result : Numbers
 
 -- every argument in the one type, which the result has too
 abbrev pub alike : Numbers → List Numbers → Signature

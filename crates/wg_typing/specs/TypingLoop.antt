@@ -1,6 +1,6 @@
 -- The header of a `for`: a scope with what it begins with (HLSL Shader Model 6.8, statements).
 use Rattle.std.specs.Prelude.{Option, Some, None}
-use Rattle.wg_typing.specs.Maybe.{◌>>=◌}
+use Rattle.wg_words.specs.Maybe.{◌>>=◌}
 use Rattle.wg_typing.specs.Scope.{Context, enter}
 use Rattle.wg_typing.specs.Sites.{Sites, nowhere}
 use Rattle.wg_typing.specs.Site.{Site}

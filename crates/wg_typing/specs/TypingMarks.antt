@@ -1,66 +1,68 @@
--- What is marked in the typed form of a function, on its finished body: the parameters and locals that have one value on all lanes of a
+-- What is marked in the typed form of a function, on its finished body: the variables that have one value on all lanes of a
 -- launch, and the collective `if`s. Own.
-use Rattle.std.specs.Prelude.{ℕ, suc, ◌==◌, Bool, true, false, ◌&&◌, ◌||◌, not, nat_lt, if◌then◌else◌, List, [], ◌∷◌, ◌++◌, map, Option, Some, None}
-use Rattle.wg_typing.specs.Scope.{Around, in_entry, in_plain, in_const, in_attribute, LocalForm}
-use Rattle.wg_typing.specs.Site.{Event, declares, requested, completed, collective, returns, calls, changes}
+use Rattle.std.specs.Prelude.{ℕ, ◌==◌, Bool, true, false, ◌&&◌, ◌||◌, not, nat_lt, if◌then◌else◌, List, [], ◌∷◌, ◌++◌, length, map, Option, Some, None}
 use Rattle.wg_typed.specs.Uniform.{UniformSetting, is_uniform, is_uniform_start, any_read}
 use Rattle.wg_typed.specs.declared.typed.SystemValue.{SystemValue}
 use Rattle.wg_typed.specs.declared.typed.SystemValue.TheVariants as system
-use Rattle.wg_typed.specs.declared.typed.TypedLocal.{TypedLocal}
+use Rattle.wg_typed.specs.declared.typed.TypedVariable.{TypedVariable}
 use Rattle.wg_typed.specs.declared.typed.TypedParameter.{TypedParameter}
 use Rattle.wg_typed.specs.declared.typed_expr.TypedExpr.{TypedExpr}
 use Rattle.wg_typed.specs.declared.typed_stmt.TypedStmt.{TypedStmt}
 use Rattle.wg_typed.specs.declared.typed_stmt.TypedStmt.TheVariants as t
 use Rattle.wg_typed.specs.declared.typed_stmt.TypedStmt.TheFolds.{fold-TypedStmt}
 use Rattle.wg_typed.specs.declared.typed_stmt.TypedStmt.TheOpen.{TypedStmt-F}
+use Rattle.wg_typing.specs.declared.context.Around.{Around}
+use Rattle.wg_typing.specs.declared.context.VariableForm.{VariableForm}
+use Rattle.wg_typing.specs.declared.event.Event.{Event}
+use Rattle.wg_typing.specs.declared.context.Around.TheVariants as surrounding
+use Rattle.wg_typing.specs.declared.event.Event.TheVariants as event
 
--- ---- parameters
+-- ---- variables
 
--- whether the body changes the parameter of a number
+-- whether the body changes the variable of a number
 abbrev pub is_changed : ℕ → List Event → Bool
-is_changed parameter [] = false
-is_changed parameter (declares name words ∷ rest) = is_changed parameter rest
-is_changed parameter (requested name handle ∷ rest) = is_changed parameter rest
-is_changed parameter (completed handle ∷ rest) = is_changed parameter rest
-is_changed parameter (collective call path ∷ rest) = is_changed parameter rest
-is_changed parameter (returns place ∷ rest) = is_changed parameter rest
-is_changed parameter (calls chain ∷ rest) = is_changed parameter rest
-is_changed parameter (changes other ∷ rest) = other == parameter || is_changed parameter rest
+is_changed variable [] = false
+is_changed variable (event.Declares name words ∷ rest) = is_changed variable rest
+is_changed variable (event.Requested name handle ∷ rest) = is_changed variable rest
+is_changed variable (event.Completed handle ∷ rest) = is_changed variable rest
+is_changed variable (event.Collective call path ∷ rest) = is_changed variable rest
+is_changed variable (event.Returns place ∷ rest) = is_changed variable rest
+is_changed variable (event.Calls chain ∷ rest) = is_changed variable rest
+is_changed variable (event.Changes other ∷ rest) = other == variable || is_changed variable rest
 
-abbrev pub is_group_id : Option SystemValue → Bool
-is_group_id (Some system.DispatchThreadId) = false
-is_group_id (Some system.GroupId) = true
-is_group_id (Some system.GroupThreadId) = false
-is_group_id (Some system.GroupIndex) = false
-is_group_id None = false
-
--- the parameters from a number on: `SV_GroupID` is uniform where the body leaves it alone
-abbrev pub marked_parameters : List Event → ℕ → List TypedParameter → List TypedParameter
-marked_parameters events number [] = []
-marked_parameters events number (p ∷ rest) =
-    record p { uniform = is_group_id p.system && not (is_changed number events) } ∷ marked_parameters events (suc number) rest
-
--- ---- locals
+abbrev pub is_group_id : SystemValue → Bool
+is_group_id system.DispatchThreadId = false
+is_group_id system.GroupId = true
+is_group_id system.GroupThreadId = false
+is_group_id system.GroupIndex = false
 
 abbrev pub is_uniform_value : UniformSetting → Option TypedExpr → Bool
 is_uniform_value u None = false
 is_uniform_value u (Some e) = is_uniform_start u e
 
--- A local is uniform where it is `const` and its start value is, by the locals before it.
-abbrev pub marked_local : UniformSetting → LocalForm → TypedLocal
-marked_local u l = record { of = l.of; uniform = l.constant && is_uniform_value u l.value }
+-- a parameter that takes a system value, or another variable with a value that is uniform or not
+abbrev pub is_uniform_of : Option SystemValue → Bool → Bool → Bool
+is_uniform_of None is_left value = value
+is_uniform_of (Some s) is_left value = is_group_id s && is_left
 
-abbrev pub with_marked : UniformSetting → TypedLocal → UniformSetting
-with_marked u l = record u { locals = u.locals ++ l ∷ [] }
+-- A parameter is uniform where it is `SV_GroupID` and the body leaves it alone; a local where it is `const` and its start value is, by the
+-- variables before it.
+abbrev pub is_uniform_variable : UniformSetting → List Event → ℕ → VariableForm → Bool
+is_uniform_variable u events number v = is_uniform_of v.system (not (is_changed number events)) (v.constant && is_uniform_value u v.value)
 
-abbrev pub with_locals : UniformSetting → List LocalForm → UniformSetting
-with_locals u [] = u
-with_locals u (l ∷ rest) = with_locals (with_marked u (marked_local u l)) rest
+abbrev pub marked_variable : UniformSetting → List Event → VariableForm → TypedVariable
+marked_variable u events v = record { of = v.of; system = v.system; uniform = is_uniform_variable u events (length u.variables) v }
 
--- what is uniform in a function with these parameters, in which this happens and these locals are declared
-abbrev pub setting_of : List TypedParameter → List Event → List LocalForm → UniformSetting
-setting_of parameters events locals =
-    with_locals (record { locals = []; parameters = marked_parameters events 0 parameters; reads_input = any_read parameters }) locals
+abbrev pub with_variable : UniformSetting → List Event → VariableForm → UniformSetting
+with_variable u events v = record u { variables = u.variables ++ marked_variable u events v ∷ [] }
+
+abbrev pub with_variables : UniformSetting → List Event → List VariableForm → UniformSetting
+with_variables u events [] = u
+with_variables u events (v ∷ rest) = with_variables (with_variable u events v) events rest
+
+-- what is uniform in a function with these parameters, in which this happens and which has these variables
+abbrev pub setting_of : List TypedParameter → List Event → List VariableForm → UniformSetting
+setting_of parameters events variables = with_variables (record { variables = []; reads_input = any_read parameters }) events variables
 
 -- ---- statements
 
@@ -129,10 +131,10 @@ marked_stmt u = fold-TypedStmt MarkedStmt (mark_step u)
 
 -- in a node of one lane no `if` is marked, nor in a plain function
 abbrev pub marks_ifs : Around → Bool
-marks_ifs (in_entry lanes) = nat_lt 1 lanes
-marks_ifs in_plain = false
-marks_ifs in_const = false
-marks_ifs (in_attribute allowed) = false
+marks_ifs (surrounding.Entry lanes) = nat_lt 1 lanes
+marks_ifs surrounding.Plain = false
+marks_ifs surrounding.Const = false
+marks_ifs (surrounding.Attribute allowed) = false
 
 abbrev pub marked_body : Around → UniformSetting → List TypedStmt → List TypedStmt
 marked_body around u body = if marks_ifs around then all_here true (map (marked_stmt u) body) else body

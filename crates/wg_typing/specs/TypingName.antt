@@ -3,7 +3,6 @@ use Rattle.std.specs.Prelude.{ℕ, Bool, if◌then◌else◌, [], ◌∷◌, Opt
 use Rattle.wg_words.specs.declared.place.Place.{Place}
 use Rattle.wg_typing.specs.Named.{is_among}
 use Rattle.wg_typing.specs.Conversions.{truth_type, number_type}
-use Rattle.wg_typing.specs.Scope.{Around, in_entry, in_plain, in_const, in_attribute}
 use Rattle.wg_typing.specs.Layers.{valued, fixed}
 use Rattle.wg_tree.specs.declared.expr.Named.{Named}
 use Rattle.wg_typed.specs.declared.typed_expr.TypedKind.TheVariants as tree
@@ -13,6 +12,8 @@ use Rattle.wg_typing.specs.declared.scope.Standing.TheVariants as standing
 use Rattle.wg_typing.specs.declared.scope.Value.{Value}
 use Rattle.wg_typing.specs.declared.scope.Value.TheVariants as value
 use Rattle.wg_typed.specs.Operators.{words_for, literal_scalar}
+use Rattle.wg_typing.specs.declared.context.Around.{Around}
+use Rattle.wg_typing.specs.declared.context.Around.TheVariants as surrounding
 
 abbrev pub number_value : Place → ℕ → Bool → Bool → Option Value
 number_value place n unsigned long = fixed place (number_type n unsigned long) (tree.Literal (words_for (literal_scalar n unsigned long) (n ∷ [])))
@@ -25,9 +26,8 @@ abbrev pub name_value : Place → Option Meant → Option Value
 name_value place (Some (meant.Struct number)) = None
 name_value place (Some (meant.Constant of words known)) = fixed place of (tree.Literal words)
 name_value place (Some (meant.Shared variable of)) = valued standing.Memory place of (tree.Shared variable)
-name_value place (Some (meant.Local local of constant)) = valued (if constant then standing.Fixed else standing.Own) place of (tree.Local local)
-name_value place (Some (meant.Parameter parameter of)) = valued standing.Own place of (tree.Parameter parameter)
-name_value place (Some (meant.Object object)) = Some (value.Object object)
+name_value place (Some (meant.Variable variable of constant)) = valued (if constant then standing.Fixed else standing.Own) place of (tree.Variable variable)
+name_value place (Some (meant.Object object)) = Some (value.Object object None)
 name_value place (Some (meant.Function number entry result parameters chain)) = None
 name_value place (Some meant.Itself) = None
 name_value place (Some meant.Broken) = None
@@ -39,8 +39,7 @@ const_name place (Some (meant.Constant of words (Some known))) = fixed place of 
 const_name place (Some (meant.Constant of words None)) = None
 const_name place (Some (meant.Struct number)) = None
 const_name place (Some (meant.Shared variable of)) = None
-const_name place (Some (meant.Local local of constant)) = None
-const_name place (Some (meant.Parameter parameter of)) = None
+const_name place (Some (meant.Variable variable of constant)) = None
 const_name place (Some (meant.Object object)) = None
 const_name place (Some (meant.Function number is_entry result parameters chain)) = None
 const_name place (Some meant.Itself) = None
@@ -48,7 +47,7 @@ const_name place (Some meant.Broken) = None
 const_name place None = None
 
 abbrev pub named_value : Around → Named → Option Meant → Option Value
-named_value (in_entry lanes) name m = name_value name.place m
-named_value in_plain name m = name_value name.place m
-named_value in_const name m = const_name name.place m
-named_value (in_attribute allowed) name m = if is_among allowed name.name then None else const_name name.place m
+named_value (surrounding.Entry lanes) name m = name_value name.place m
+named_value surrounding.Plain name m = name_value name.place m
+named_value surrounding.Const name m = const_name name.place m
+named_value (surrounding.Attribute allowed) name m = if is_among allowed name.name then None else const_name name.place m

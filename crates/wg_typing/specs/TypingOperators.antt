@@ -1,9 +1,10 @@
 -- The typed form of operators: prefix operators, casts, `?:`, and chains of operators from left to right (HLSL Shader Model 6.8, operators).
 use Rattle.std.specs.Prelude.{◌&&◌, if◌then◌else◌, List, [], ◌∷◌, Option, Some, None}
 use Rattle.wg_words.specs.declared.place.Place.{Place}
-use Rattle.wg_typing.specs.Maybe.{◌>>=◌, where_true}
-use Rattle.wg_typing.specs.Conversions.{Numbers, numbers, type_of, truth_type, same_type, fits, truths, common_numbers, class_of, suits, Operation, operation_on}
-use Rattle.wg_typing.specs.Layers.{LinkLayer, Part, typed_part, convert, fit, fixed}
+use Rattle.wg_words.specs.Maybe.{◌>>=◌}
+use Rattle.wg_typing.specs.Maybe.{where_true}
+use Rattle.wg_typing.specs.Conversions.{numbers, type_of, truth_type, same_type, fits, truths, common_numbers, class_of, suits, operation_on}
+use Rattle.wg_typing.specs.Layers.{typed_part, convert, fit, fixed}
 use Rattle.wg_tree.specs.declared.expr.PrefixOperator.{PrefixOperator}
 use Rattle.wg_tree.specs.declared.expr.PrefixOperator.TheVariants as prefix
 use Rattle.wg_tree.specs.declared.expr.BinaryOperator.{BinaryOperator}
@@ -15,6 +16,10 @@ use Rattle.wg_typing.specs.declared.scope.Meant.{Meant}
 use Rattle.wg_typing.specs.declared.scope.Meant.TheVariants as meant
 use Rattle.wg_typing.specs.declared.scope.Value.{Value}
 use Rattle.wg_typed.specs.Operators.{counted}
+use Rattle.wg_typing.specs.declared.numbers.Numbers.{Numbers}
+use Rattle.wg_typing.specs.declared.numbers.Operation.{Operation}
+use Rattle.wg_typing.specs.declared.part.LinkLayer.{LinkLayer}
+use Rattle.wg_typing.specs.declared.part.Part.{Part}
 
 abbrev pub prefix_type : PrefixOperator → Numbers → Numbers
 prefix_type prefix.Minus n = record { of = counted n.of; size = n.size }
@@ -39,8 +44,7 @@ abbrev pub zeros_value : Place → Option Meant → Option Value
 zeros_value place (Some (meant.Struct number)) = fixed place (type.Struct number) tree.Zeros
 zeros_value place (Some (meant.Constant of words known)) = None
 zeros_value place (Some (meant.Shared variable of)) = None
-zeros_value place (Some (meant.Local local of constant)) = None
-zeros_value place (Some (meant.Parameter parameter of)) = None
+zeros_value place (Some (meant.Variable variable of constant)) = None
 zeros_value place (Some (meant.Object object)) = None
 zeros_value place (Some (meant.Function number is_entry result parameters chain)) = None
 zeros_value place (Some meant.Itself) = None

@@ -1,7 +1,8 @@
 -- The parameters of a function: values, and in an entry function one input and outputs (DirectX-Specs, Work Graphs, node inputs and outputs).
-use Rattle.std.specs.Prelude.{ℕ, suc, Bool, true, false, not, ◌||◌, if◌then◌else◌, List, [], ◌∷◌, Option, Some, None, slice_get}
-use Rattle.wg_typing.specs.Maybe.{◌>>=◌, where_true}
-use Rattle.wg_typing.specs.Scope.{Context, Around, in_entry, in_plain, in_const, in_attribute, own_names, declare, named_type, once}
+use Rattle.std.specs.Prelude.{ℕ, suc, Bool, true, false, not, ◌||◌, if◌then◌else◌, List, [], ◌∷◌, ◌++◌, length, Option, Some, None, slice_get}
+use Rattle.wg_words.specs.Maybe.{◌>>=◌}
+use Rattle.wg_typing.specs.Maybe.{where_true}
+use Rattle.wg_typing.specs.Scope.{Context, own_names, declare, named_type, once}
 use Rattle.wg_typing.specs.TypingAttributes.{attributes_of, attribute_sites}
 use Rattle.wg_typing.specs.TypingHandle.{record_number, object_sites}
 use Rattle.wg_typing.specs.Sites.{Sites, nowhere, only, ◌&◌}
@@ -14,10 +15,10 @@ use Rattle.wg_tree.specs.declared.stmt.ObjectWord.TheVariants as object_word
 use Rattle.wg_tree.specs.declared.item.Parameter.{Parameter}
 use Rattle.wg_tree.specs.declared.item.ParameterType.{ParameterType}
 use Rattle.wg_tree.specs.declared.item.ParameterType.TheVariants as parameter_type
-use Rattle.wg_typed.specs.declared.types.TypeTree.{TypeTree}
 use Rattle.wg_typed.specs.declared.typed.TypedParameter.{TypedParameter}
 use Rattle.wg_typed.specs.declared.typed.TypedParameterType.{TypedParameterType}
 use Rattle.wg_typed.specs.declared.typed.TypedParameterType.TheVariants as typed_parameter
+use Rattle.wg_typing.specs.declared.context.VariableForm.{VariableForm}
 use Rattle.wg_typing.specs.declared.scope.Meant.{Meant}
 use Rattle.wg_typing.specs.declared.scope.Meant.TheVariants as meant
 use Rattle.wg_typing.specs.declared.scope.Object.{Object}
@@ -30,6 +31,8 @@ use Rattle.wg_typing.specs.AttributeArguments.{has}
 use Rattle.wg_typed.specs.declared.typed.TypedStruct.{TypedStruct}
 use Rattle.wg_typing.specs.declared.scope.Sharing.{Sharing}
 use Rattle.wg_typing.specs.declared.scope.Sharing.TheVariants as sharing
+use Rattle.wg_typing.specs.declared.context.Around.{Around}
+use Rattle.wg_typing.specs.declared.context.Around.TheVariants as surrounding
 
 -- what an object's word makes of a parameter of an entry function
 pub data Role : Type 0 where
@@ -53,9 +56,8 @@ role_of object_word.EmptyNodeOutputArray = an_output true
 role_of object_word.ThreadNodeOutputRecords = no_role
 role_of object_word.GroupNodeOutputRecords = no_role
 
--- the parameters before: their number, whether one is an input, and how many are outputs
+-- the parameters before: whether one is an input, and how many are outputs
 pub record Before : Type 0 where
-  pub number : ℕ
   pub has_input : Bool
   pub outputs : ℕ
 
@@ -75,19 +77,18 @@ role_in (parameter_type.Object of) = role_of of.word
 
 abbrev pub one_more : ParameterType → Before → Before
 one_more of b = record {
-  number = suc b.number;
   has_input = b.has_input || is_input (role_in of);
   outputs = if is_output (role_in of) then suc b.outputs else b.outputs;
 }
 
 -- whether an object may stand as a parameter: in an entry function, one input alone
 abbrev pub takes_role : Around → Bool → Role → Bool
-takes_role (in_entry lanes) has_input (an_input many s shared) = not has_input
-takes_role (in_entry lanes) has_input (an_output array) = true
-takes_role (in_entry lanes) has_input no_role = false
-takes_role in_plain has_input role = false
-takes_role in_const has_input role = false
-takes_role (in_attribute allowed) has_input role = false
+takes_role (surrounding.Entry lanes) has_input (an_input many s shared) = not has_input
+takes_role (surrounding.Entry lanes) has_input (an_output array) = true
+takes_role (surrounding.Entry lanes) has_input no_role = false
+takes_role surrounding.Plain has_input role = false
+takes_role surrounding.Const has_input role = false
+takes_role (surrounding.Attribute allowed) has_input role = false
 
 -- the record type of an object that stands where it may: none where it is broken
 pub data HeldRecords : Type 0 where
@@ -121,29 +122,40 @@ sharing_of structs false record_type = sharing.Copied
 
 abbrev pub input_or_output : List TypedStruct → Role → ℕ → Option ℕ → Option Object
 input_or_output structs (an_input many s shared) outputs record_type = Some (object.Input many record_type s (sharing_of structs shared record_type))
-input_or_output structs (an_output array) outputs record_type = Some (object.Output outputs array record_type None)
+input_or_output structs (an_output array) outputs record_type = Some (object.Output outputs array record_type)
 input_or_output structs no_role outputs record_type = None
 
-abbrev pub role_object : List TypedStruct → Role → ℕ → HeldRecords → Option Object
-role_object structs role outputs empty = input_or_output structs role outputs None
-role_object structs role outputs (records number) = input_or_output structs role outputs (Some number)
-role_object structs role outputs unsure_records = None
+-- a parameter's type, and what it means: a value is the variable of the next number
+abbrev pub held_parameter : Context → Before → ObjectType → Option ℕ → Option (TypedParameterType × Meant)
+held_parameter c b of record_type =
+    input_or_output c.structs (role_of of.word) b.outputs record_type >>= (λ o. Some (typed_parameter.Object of.place of.word record_type, meant.Object o))
 
-abbrev pub object_if : Option Object → Meant
-object_if (Some o) = meant.Object o
-object_if None = meant.Broken
+abbrev pub object_parameter : Context → Before → ObjectType → HeldRecords → Option (TypedParameterType × Meant)
+object_parameter c b of empty = held_parameter c b of None
+object_parameter c b of (records number) = held_parameter c b of (Some number)
+object_parameter c b of unsure_records = None
 
-abbrev pub value_if : ℕ → Option TypeTree → Meant
-value_if number (Some of) = meant.Parameter number of
-value_if number None = meant.Broken
+-- none where it is broken
+abbrev pub parameter_of : Context → Before → ParameterType → Option (TypedParameterType × Meant)
+parameter_of c b (parameter_type.Value of) =
+    named_type c.names of >>= (λ of. Some (typed_parameter.Value of, meant.Variable (length c.variables) of false))
+parameter_of c b (parameter_type.Object of) =
+    where_true (takes_role c.around b.has_input (role_of of.word)) of >>= (λ of. object_parameter c b of (holds c of))
 
-abbrev pub parameter_meant : Context → Before → ParameterType → Meant
-parameter_meant c b (parameter_type.Value of) = value_if b.number (named_type c.names of)
-parameter_meant c b (parameter_type.Object of) =
-    if takes_role c.around b.has_input (role_of of.word) then object_if (role_object c.structs (role_of of.word) b.outputs (holds c of)) else meant.Broken
+abbrev pub meant_if : Option (TypedParameterType × Meant) → Meant
+meant_if None = meant.Broken
+meant_if (Some known) = known.1
+
+-- the variable of a parameter that is no object
+abbrev pub parameter_variable : Around → Parameter → Option (TypedParameterType × Meant) → List VariableForm
+parameter_variable around p None = []
+parameter_variable around p (Some (typed_parameter.Value of, m)) =
+    record { of = of; system = system_in around p.direction (typed_parameter.Value of) p.semantic; constant = false; value = None } ∷ []
+parameter_variable around p (Some (typed_parameter.Object place word record_type, m)) = []
 
 abbrev pub with_parameter : Before → Parameter → Context → Context
-with_parameter b p c = once p.name c (declare p.name (parameter_meant c b p.of) c)
+with_parameter b p c =
+    once p.name c (record (declare p.name (meant_if (parameter_of c b p.of)) c) { variables = c.variables ++ parameter_variable c.around p (parameter_of c b p.of) })
 
 abbrev pub parameters_after : Before → List Parameter → Context → Context
 parameters_after b [] c = c
@@ -166,25 +178,13 @@ parameters_sites b (p ∷ rest) c =
     attribute_sites c p.attributes & parameter_type_sites c b p.name p.of & only (AtName (own_names c) p.name)
     & output_site b p.name p.of & parameters_sites (one_more p.of b) rest (with_parameter b p c)
 
-abbrev pub object_tree : Context → ObjectType → HeldRecords → Option TypedParameterType
-object_tree c of empty = Some (typed_parameter.Object of.place of.word None)
-object_tree c of (records number) = Some (typed_parameter.Object of.place of.word (Some number))
-object_tree c of unsure_records = None
-
-abbrev pub parameter_type_tree : Context → Before → ParameterType → Option TypedParameterType
-parameter_type_tree c b (parameter_type.Value of) = named_type c.names of >>= (λ of. Some (typed_parameter.Value of))
-parameter_type_tree c b (parameter_type.Object of) =
-    where_true (takes_role c.around b.has_input (role_of of.word)) of >>= (λ of. object_tree c of (holds c of))
-
 abbrev pub parameter_tree : Context → Before → Parameter → Option TypedParameter
-parameter_tree c b p = parameter_type_tree c b p.of >>= (λ of. Some (record {
+parameter_tree c b p = parameter_of c b p.of >>= (λ known. Some (record {
   attributes = attributes_of c p.attributes;
   direction = p.direction;
-  of = of;
+  of = known.0;
   name = p.name;
   semantic = p.semantic;
-  system = system_in c.around p.direction of p.semantic;
-  uniform = false;
 }))
 
 abbrev pub parameters_trees : Before → List Parameter → Context → Option (List TypedParameter)
@@ -211,7 +211,7 @@ numbered test at (p ∷ rest) = if test (typed_role p.of) then at ∷ numbered t
 
 -- the lanes of a node, and the numbers of its input and its outputs
 abbrev pub entry_of : Around → List TypedParameter → Option TypedEntry
-entry_of (in_entry lanes) parameters = Some (record { lanes = lanes; input = list_first (numbered is_input 0 parameters); outputs = numbered is_output 0 parameters })
-entry_of in_plain parameters = None
-entry_of in_const parameters = None
-entry_of (in_attribute allowed) parameters = None
+entry_of (surrounding.Entry lanes) parameters = Some (record { lanes = lanes; input = list_first (numbered is_input 0 parameters); outputs = numbered is_output 0 parameters })
+entry_of surrounding.Plain parameters = None
+entry_of surrounding.Const parameters = None
+entry_of (surrounding.Attribute allowed) parameters = None

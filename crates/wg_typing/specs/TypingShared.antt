@@ -1,6 +1,6 @@
 -- Variables in `groupshared` memory (HLSL Shader Model 6.8; the limit on their words is own).
 use Rattle.std.specs.Prelude.{ℕ, ◌+◌, List, [], ◌∷◌, Option, Some, None}
-use Rattle.wg_typing.specs.Maybe.{◌>>=◌}
+use Rattle.wg_words.specs.Maybe.{◌>>=◌}
 use Rattle.wg_typed.specs.Layout.{words_of}
 use Rattle.wg_typing.specs.Scope.{named_type}
 use Rattle.wg_typing.specs.TypingDeclared.{declared_type}

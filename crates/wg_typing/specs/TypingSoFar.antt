@@ -1,21 +1,16 @@
 -- A text as far as it is declared: its names in order, and their typed forms.
-use Rattle.std.specs.Prelude.{ℕ, false, List, [], ◌∷◌, ◌++◌, map, Option}
-use Rattle.wg_typing.specs.Scope.{Context, in_plain, nothing, name_bytes}
+use Rattle.std.specs.Prelude.{ℕ, false, List, [], ◌∷◌, ◌++◌, map}
+use Rattle.wg_typing.specs.Scope.{Context, name_bytes}
 use Rattle.wg_tree.specs.declared.expr.Named.{Named}
-use Rattle.wg_typed.specs.declared.typed.TypedStruct.{TypedStruct}
-use Rattle.wg_typed.specs.declared.typed.TypedBuffer.{TypedBuffer}
-use Rattle.wg_typed.specs.declared.typed.TypedShared.{TypedShared}
-use Rattle.wg_typed.specs.declared.typed.TypedFunction.{TypedFunction}
 use Rattle.wg_typing.specs.declared.scope.Declared.{Declared}
 use Rattle.wg_typing.specs.declared.scope.Meant.{Meant}
+use Rattle.wg_typing.specs.declared.so_far.TextOf.{TextOf}
+use Rattle.wg_typing.specs.declared.context.Around.TheVariants as surrounding
+use Rattle.wg_typing.specs.declared.context.GivesBack.TheVariants as gives_back
 
--- the names declared, and what they stand for, in order; what is broken has no typed form
-pub record Text : Type 0 where
-  pub names : List Declared
-  pub structs : List TypedStruct
-  pub buffers : List (Option TypedBuffer)
-  pub shared : List (Option TypedShared)
-  pub functions : List (Option TypedFunction)
+-- The names declared, and what they stand for, in order. What is broken has no typed form.
+abbrev pub Text : Type 0
+Text = TextOf (List Declared)
 
 -- a context outside functions
 abbrev pub outside : Text → Context
@@ -23,11 +18,11 @@ outside x = record {
   names = x.names;
   start = 0;
   structs = x.structs;
-  around = in_plain;
+  around = surrounding.Plain;
   parameters = [];
-  returns = nothing;
+  returns = gives_back.Nothing;
   looped = false;
-  locals = [];
+  variables = [];
   handles = [];
 }
 

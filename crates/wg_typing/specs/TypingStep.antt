@@ -1,14 +1,17 @@
 -- The typed form of a step, as a statement and in the header of a `for` (HLSL Shader Model 6.8, statements; collective statements are own).
 use Rattle.std.specs.Prelude.{ℕ, ◌==◌, Bool, true, false, not, ◌||◌, List, [], ◌∷◌, ◌++◌, Option, Some, None}
-use Rattle.wg_typing.specs.Maybe.{◌>>=◌, where_true}
+use Rattle.wg_words.specs.Maybe.{◌>>=◌}
+use Rattle.wg_typing.specs.Maybe.{where_true}
 use Rattle.wg_typing.specs.Conversions.{type_of, fits, is_number}
 use Rattle.wg_typing.specs.Scope.{Context, own}
-use Rattle.wg_typing.specs.Layers.{Part, TypedPart, typed_part, convert, fit}
+use Rattle.wg_typing.specs.Layers.{typed_part, convert, fit}
 use Rattle.wg_typing.specs.TypingInterlocked.{is_fixed}
-use Rattle.wg_typing.specs.TypingExpr.{part, sites_of}
-use Rattle.wg_typing.specs.TypingOperators.{suited}
+use Rattle.wg_typing.specs.TypingExpr.{part, sites_of, sites_of_value}
+use Rattle.wg_typing.specs.PartSites.{part_site, goal_if}
+use Rattle.wg_tree.specs.declared.expr.Expr.{Expr}
+use Rattle.wg_typing.specs.TypingOperators.{suited, typed_of}
 use Rattle.wg_typing.specs.Sites.{Sites, nowhere, only, ◌&◌}
-use Rattle.wg_typing.specs.Site.{Site, AtStep}
+use Rattle.wg_typing.specs.Site.{Site, AtNumber, AtTarget, AtUpdate, AtAlone}
 use Rattle.wg_tree.specs.declared.expr.BinaryOperator.{BinaryOperator}
 use Rattle.wg_tree.specs.declared.expr.BinaryOperator.TheVariants as binary
 use Rattle.wg_tree.specs.declared.stmt.AssignOperator.{AssignOperator}
@@ -29,19 +32,18 @@ use Rattle.wg_typing.specs.declared.scope.Meant.TheVariants as meant
 use Rattle.wg_typing.specs.declared.scope.Object.TheVariants as object
 use Rattle.wg_typing.specs.declared.scope.Value.{Value}
 use Rattle.wg_typing.specs.declared.scope.Value.TheVariants as value
-
--- what a step does: a typed step, or a barrier or an output call
-pub data Did : Type 0 where
-  a_step : TypedStep → Did
-  an_act : Act → Did
+use Rattle.wg_typing.specs.declared.part.Part.{Part}
+use Rattle.wg_typing.specs.declared.part.TypedPart.{TypedPart}
+use Rattle.wg_typing.specs.declared.part.Did.{Did}
+use Rattle.wg_typing.specs.declared.part.Did.TheVariants as did
 
 abbrev pub acted : Act → Did
-acted (act.Step s) = a_step s
-acted a = an_act a
+acted (act.Step s) = did.Step s
+acted a = did.Act a
 
 abbrev pub evaluated : Option Value → Option Did
-evaluated (Some (value.Typed of standing tree)) = Some (a_step (typed_step.Evaluate tree))
-evaluated (Some (value.Object object)) = None
+evaluated (Some (value.Typed of standing tree)) = Some (did.Step (typed_step.Evaluate tree))
+evaluated (Some (value.Object object element)) = None
 evaluated (Some (value.Act name a)) = Some (acted a)
 evaluated (Some (value.Text bytes)) = None
 evaluated None = None
@@ -70,13 +72,13 @@ updated operator target v = do
   o ← suited operator target.of v.of
   by ← where_true (fits (type_of o.result) target.of) (type_of o.left)
   operand ← convert (type_of o.right) v
-  Some (a_step (typed_step.Update target.tree operator by operand))
+  Some (did.Step (typed_step.Update target.tree operator by operand))
 
 abbrev pub assigned : Option BinaryOperator → Part → Part → Option Did
 assigned None target v = do
   to ← assignable_target target
   from ← fit to.of v
-  Some (a_step (typed_step.Assign to.tree from))
+  Some (did.Step (typed_step.Assign to.tree from))
 assigned (Some operator) target v = do
   to ← assignable_target target
   from ← typed_part v
@@ -85,7 +87,7 @@ assigned (Some operator) target v = do
 abbrev pub changed : StepOperator → Part → Option Did
 changed operator target = do
   to ← assignable_target target
-  where_true (is_number to.of) (a_step (typed_step.Change to.tree operator))
+  where_true (is_number to.of) (did.Step (typed_step.Change to.tree operator))
 
 abbrev pub step_did : Context → Step → Option Did
 step_did c (step.Evaluate e) = evaluated (part c e).value
@@ -93,26 +95,37 @@ step_did c (step.Assign target operator place v) = assigned (operator_of operato
 step_did c (step.Before place operator target) = changed operator (part c target)
 step_did c (step.After target operator place) = changed operator (part c target)
 
-abbrev pub step_parts : Context → Step → Sites Site
-step_parts c (step.Evaluate e) = sites_of c e
-step_parts c (step.Assign target operator place v) = sites_of c target & sites_of c v
-step_parts c (step.Before place operator target) = sites_of c target
-step_parts c (step.After target operator place) = sites_of c target
+-- what is assigned to
+abbrev pub target_sites : Context → Expr → Sites Site
+target_sites c target = sites_of c target & only (AtTarget (part c target))
 
+abbrev pub update_site : BinaryOperator → Option TypedPart → Option TypedPart → Sites Site
+update_site operator None v = nowhere
+update_site operator (Some target) None = nowhere
+update_site operator (Some target) (Some v) = only (AtUpdate operator target v)
+
+abbrev pub assigned_sites : Option BinaryOperator → Part → Part → Sites Site
+assigned_sites None target v = goal_if (typed_of target) v
+assigned_sites (Some operator) target v = update_site operator (typed_part target) (typed_part v)
+
+-- a step, in the header of a `for` or as a statement
 abbrev pub step_sites : Context → Bool → Step → Sites Site
-step_sites c header s = step_parts c s & only (AtStep c header s)
+step_sites c header (step.Evaluate e) = sites_of c e & only (AtAlone c header (part c e))
+step_sites c header (step.Assign target operator place v) =
+    target_sites c target & sites_of_value c v & assigned_sites (operator_of operator) (part c target) (part c v)
+step_sites c header (step.Before place operator target) = target_sites c target & part_site AtNumber (part c target)
+step_sites c header (step.After target operator place) = target_sites c target & part_site AtNumber (part c target)
 
 -- whether the handle of the number is declared in the own scope
 abbrev pub is_handle : ℕ → Meant → Bool
 is_handle handle (meant.Object (object.Buffer buffer of)) = false
 is_handle handle (meant.Object (object.Input many record_type standing sharing)) = false
-is_handle handle (meant.Object (object.Output output array record_type element)) = false
+is_handle handle (meant.Object (object.Output output array record_type)) = false
 is_handle handle (meant.Object (object.Handle number record_type)) = number == handle
 is_handle handle (meant.Struct number) = false
 is_handle handle (meant.Constant of words known) = false
 is_handle handle (meant.Shared variable of) = false
-is_handle handle (meant.Local local of constant) = false
-is_handle handle (meant.Parameter parameter of) = false
+is_handle handle (meant.Variable variable of constant) = false
 is_handle handle (meant.Function number is_entry result parameters chain) = false
 is_handle handle meant.Itself = false
 is_handle handle meant.Broken = false
@@ -124,6 +137,11 @@ declares_handle handle (d ∷ rest) = is_handle handle d.meant || declares_handl
 abbrev pub own_handle : Context → ℕ → Bool
 own_handle c handle = declares_handle handle (own c)
 
+-- whether it is the handle that is declared
+abbrev pub handle_there : ℕ → Option Declared → Bool
+handle_there handle None = false
+handle_there handle (Some d) = is_handle handle d.meant
+
 -- A step as a statement; where collective statements may stand is looked at on the whole body. `OutputComplete` is of a handle of the own block.
 abbrev pub act_stmt : Context → Act → Option TypedStmt
 act_stmt c (act.Step s) = Some (t.Step s)
@@ -134,8 +152,8 @@ act_stmt c (act.Complete handle) = where_true (own_handle c handle) (t.Complete 
 act_stmt c (act.Finished tracked) = None
 
 abbrev pub step_stmt : Context → Did → Option TypedStmt
-step_stmt c (a_step s) = Some (t.Step s)
-step_stmt c (an_act a) = act_stmt c a
+step_stmt c (did.Step s) = Some (t.Step s)
+step_stmt c (did.Act a) = act_stmt c a
 
 -- A step of the header of a `for`: a barrier that does not sync has no effect, and no typed form.
 abbrev pub act_in_header : Act → Option (List TypedStep)
@@ -147,8 +165,8 @@ act_in_header (act.Complete handle) = None
 act_in_header (act.Finished tracked) = None
 
 abbrev pub did_in_header : Did → Option (List TypedStep)
-did_in_header (a_step s) = Some (s ∷ [])
-did_in_header (an_act a) = act_in_header a
+did_in_header (did.Step s) = Some (s ∷ [])
+did_in_header (did.Act a) = act_in_header a
 
 abbrev pub header_trees : Context → List Step → Option (List TypedStep)
 header_trees c [] = Some []

@@ -1,14 +1,16 @@
 -- The typed form of a statement, its sites, and the context after it: a fold over one layer of the tree (HLSL Shader Model 6.8, statements).
 use Rattle.std.specs.Prelude.{false, List, [], ◌∷◌, Option, Some, None, Bool, true, ◌&&◌}
 use Rattle.wg_words.specs.declared.place.Place.{Place}
-use Rattle.wg_typing.specs.Maybe.{◌>>=◌, where_true, if_there}
+use Rattle.wg_words.specs.Maybe.{◌>>=◌}
+use Rattle.wg_typing.specs.Maybe.{where_true, if_there}
 use Rattle.wg_typing.specs.Conversions.{truth_type}
-use Rattle.wg_typing.specs.Scope.{Context, GivesBack, nothing, a_value, unsure, enter, enter_loop, leave}
-use Rattle.wg_typing.specs.TypingExpr.{sites_of}
+use Rattle.wg_typing.specs.Scope.{Context, enter, enter_loop, leave}
+use Rattle.wg_typing.specs.TypingExpr.{part}
+use Rattle.wg_typed.specs.declared.types.TypeTree.{TypeTree}
 use Rattle.wg_typing.specs.TypingAttributes.{attributes_of, attribute_sites}
 use Rattle.wg_typing.specs.Sites.{Sites, nowhere, only, ◌&◌, within}
 use Rattle.wg_typing.specs.Site.{Site, AtReturn, AtJump}
-use Rattle.wg_typing.specs.TypingDeclared.{fit_in, condition_sites}
+use Rattle.wg_typing.specs.TypingDeclared.{fit_in, condition_sites, wanted_sites}
 use Rattle.wg_typing.specs.TypingStep.{step_did, step_sites, step_stmt, header_trees, header_sites, maybe_steps}
 use Rattle.wg_typing.specs.TypingDeclaration.{declaration_after, declaration_sites, declaration_trees}
 use Rattle.wg_typing.specs.TypingHandle.{handle_request, handle_sites, request_stmt, handle_after}
@@ -20,7 +22,10 @@ use Rattle.wg_tree.specs.declared.stmt.Stmt.{Stmt, fold-Stmt}
 use Rattle.wg_tree.specs.declared.stmt.Stmt.TheOpen.{Stmt-F}
 use Rattle.wg_typed.specs.declared.typed_stmt.TypedStmt.{TypedStmt}
 use Rattle.wg_typed.specs.declared.typed_stmt.TypedStmt.TheVariants as t
-use Rattle.wg_typing.specs.Region.{Region, a_loop, a_block, a_branch}
+use Rattle.wg_typing.specs.declared.context.GivesBack.{GivesBack}
+use Rattle.wg_typing.specs.declared.event.Region.{Region}
+use Rattle.wg_typing.specs.declared.context.GivesBack.TheVariants as gives_back
+use Rattle.wg_typing.specs.declared.event.Region.TheVariants as region
 
 -- what a statement does in its context: whether it is a block, the context after it, its sites, and its typed form if it has one
 pub record Walked : Type 0 where
@@ -75,9 +80,14 @@ stmt_after (Stmt-F.If attributes place test first other) c = else_after other (b
 stmt_after (Stmt-F.While attributes place test body) c = leave c (body (enter_loop c)).after
 stmt_after (Stmt-F.For attributes place h body) c = leave c (body (enter_loop (in_header h c))).after
 
+abbrev pub given_type : GivesBack → Option TypeTree
+given_type gives_back.Nothing = None
+given_type (gives_back.Value of) = Some of
+given_type gives_back.Unsure = None
+
 abbrev pub returned_sites : Context → Place → Option Expr → Sites Site
-returned_sites c place None = only (AtReturn c place None)
-returned_sites c place (Some e) = sites_of c e & only (AtReturn c place (Some e))
+returned_sites c place None = only (AtReturn c.returns place None)
+returned_sites c place (Some e) = wanted_sites c (given_type c.returns) e & only (AtReturn c.returns place (Some (part c e)))
 
 abbrev pub is_block : Stmt-F Walk → Bool
 is_block (Stmt-F.Block place body) = true
@@ -98,32 +108,32 @@ else_is_block (Some w) c = (w (enter c)).block
 
 -- the branches of an `if`
 abbrev pub branches : Context → Expr → Walk → Option Walk → Region
-branches c test first other = a_branch (fit_in c truth_type test) ((first (enter c)).block && else_is_block other (branch_after first c))
+branches c test first other = region.Branch (fit_in c truth_type test) ((first (enter c)).block && else_is_block other (branch_after first c))
 
 abbrev pub stmt_sites : Stmt-F Walk → Context → Sites Site
-stmt_sites (Stmt-F.Block place body) c = within a_block (block_sites body (enter c))
+stmt_sites (Stmt-F.Block place body) c = within region.Block (block_sites body (enter c))
 stmt_sites (Stmt-F.Empty place) c = nowhere
 stmt_sites (Stmt-F.Declare d) c = declaration_sites d c
 stmt_sites (Stmt-F.Handle of name e) c = handle_sites of name e c
 stmt_sites (Stmt-F.Step s) c = step_sites c false s
-stmt_sites (Stmt-F.Break place) c = only (AtJump c place)
-stmt_sites (Stmt-F.Continue place) c = only (AtJump c place)
+stmt_sites (Stmt-F.Break place) c = only (AtJump c.looped place)
+stmt_sites (Stmt-F.Continue place) c = only (AtJump c.looped place)
 stmt_sites (Stmt-F.Return place e) c = returned_sites c place e
 stmt_sites (Stmt-F.If attributes place test first other) c =
     attribute_sites c attributes & condition_sites c test & within (branches c test first other) ((first (enter c)).sites & else_sites other (branch_after first c))
 stmt_sites (Stmt-F.While attributes place test body) c =
-    attribute_sites c attributes & condition_sites c test & within a_loop (body (enter_loop c)).sites
+    attribute_sites c attributes & condition_sites c test & within region.Loop (body (enter_loop c)).sites
 stmt_sites (Stmt-F.For attributes place h body) c =
-    attribute_sites c attributes & within a_block (start_sites h.start (enter c)) & test_sites (in_header h c) h.test
-    & header_sites (in_header h c) (maybe_steps h.steps) & within a_loop (body (enter_loop (in_header h c))).sites
+    attribute_sites c attributes & within region.Block (start_sites h.start (enter c)) & test_sites (in_header h c) h.test
+    & header_sites (in_header h c) (maybe_steps h.steps) & within region.Loop (body (enter_loop (in_header h c))).sites
 
 -- the value that a function gives back
 abbrev pub returned_tree : Context → GivesBack → Option Expr → Option TypedStmt
-returned_tree c nothing None = Some (t.Return None)
-returned_tree c nothing (Some e) = None
-returned_tree c (a_value of) None = None
-returned_tree c (a_value of) (Some e) = fit_in c of e >>= (λ v. Some (t.Return (Some v)))
-returned_tree c unsure e = None
+returned_tree c gives_back.Nothing None = Some (t.Return None)
+returned_tree c gives_back.Nothing (Some e) = None
+returned_tree c (gives_back.Value of) None = None
+returned_tree c (gives_back.Value of) (Some e) = fit_in c of e >>= (λ v. Some (t.Return (Some v)))
+returned_tree c gives_back.Unsure e = None
 
 abbrev pub if_tree : Context → List Attribute → Expr → Walk → Option Walk → Option TypedStmt
 if_tree c attributes test first other = do

@@ -1,6 +1,7 @@
 -- The typed form of a struct (HLSL Shader Model 6.8, structs; the limit on its words is own).
 use Rattle.std.specs.Prelude.{ℕ, nat_le, List, [], ◌∷◌, ◌++◌, length, map, Option, Some, None}
-use Rattle.wg_typing.specs.Maybe.{◌>>=◌, where_true, all_of}
+use Rattle.wg_words.specs.Maybe.{◌>>=◌}
+use Rattle.wg_typing.specs.Maybe.{where_true, all_of}
 use Rattle.wg_typed.specs.Layout.{words_of}
 use Rattle.wg_typing.specs.Scope.{Context, named_type}
 use Rattle.wg_typing.specs.TypingAttributes.{attributes_of}

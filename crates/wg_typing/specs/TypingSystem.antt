@@ -4,7 +4,6 @@ use Prim.Native.String.{String}
 use Rattle.wg_typing.specs.Conversions.{same_scalar, same_type, uint_type}
 use Rattle.wg_typing.specs.Maybe.{where_true}
 use Rattle.wg_typing.specs.Named.{at_name}
-use Rattle.wg_typing.specs.Scope.{Around, in_entry, in_plain, in_const, in_attribute}
 use Rattle.wg_tree.specs.declared.expr.Named.{Named}
 use Rattle.wg_tree.specs.declared.expr.Scalar.TheVariants as scalar
 use Rattle.wg_tree.specs.declared.item.Directed.{Directed}
@@ -14,8 +13,11 @@ use Rattle.wg_typed.specs.declared.types.TypeTree.{TypeTree}
 use Rattle.wg_typed.specs.declared.types.TypeTree.TheVariants as type
 use Rattle.wg_typed.specs.declared.typed.SystemValue.{SystemValue}
 use Rattle.wg_typed.specs.declared.typed.SystemValue.TheVariants as system
+use Rattle.wg_typed.specs.declared.typed.TypedParameter.{TypedParameter}
 use Rattle.wg_typed.specs.declared.typed.TypedParameterType.{TypedParameterType}
 use Rattle.wg_typed.specs.declared.typed.TypedParameterType.TheVariants as parameter_type
+use Rattle.wg_typing.specs.declared.context.Around.{Around}
+use Rattle.wg_typing.specs.declared.context.Around.TheVariants as surrounding
 
 abbrev pub system_names : List (String × SystemValue)
 system_names = ("SV_DispatchThreadID", system.DispatchThreadId) ∷ ("SV_GroupID", system.GroupId)
@@ -57,9 +59,13 @@ abbrev pub system_if : Bool → TypedParameterType → Option Named → Option S
 system_if true of semantic = system_of_type of (system_named semantic)
 system_if false of semantic = None
 
--- the system value that a parameter of an entry function takes, by its semantic, its type and its direction
+-- the system value that a parameter of an entry function takes
+abbrev pub system_of : TypedParameter → Option SystemValue
+system_of p = system_if (is_read p.direction) p.of p.semantic
+
+-- the same in any function, by its semantic, its type and its direction
 abbrev pub system_in : Around → Option Directed → TypedParameterType → Option Named → Option SystemValue
-system_in (in_entry lanes) d of semantic = system_if (is_read d) of semantic
-system_in in_plain d of semantic = None
-system_in in_const d of semantic = None
-system_in (in_attribute allowed) d of semantic = None
+system_in (surrounding.Entry lanes) d of semantic = system_if (is_read d) of semantic
+system_in surrounding.Plain d of semantic = None
+system_in surrounding.Const d of semantic = None
+system_in (surrounding.Attribute allowed) d of semantic = None

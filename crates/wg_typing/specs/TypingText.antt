@@ -1,6 +1,7 @@
 -- The typed form of a text and its sites: its declarations in order (HLSL Shader Model 6.8; DirectX-Specs, Work Graphs).
 use Rattle.std.specs.Prelude.{suc, List, [], ◌∷◌, ◌++◌, length, Option, Some, if◌then◌else◌}
-use Rattle.wg_typing.specs.Maybe.{◌>>=◌, all_of}
+use Rattle.wg_words.specs.Maybe.{◌>>=◌}
+use Rattle.wg_typing.specs.Maybe.{all_of}
 use Rattle.wg_typing.specs.Scope.{named_type}
 use Rattle.wg_typing.specs.TypingAttributes.{attribute_sites}
 use Rattle.wg_typing.specs.TypingDeclared.{declared_sites}

@@ -1,10 +1,10 @@
-use sqlite_items::Items;
+use sqlite_items::{Boxed, Items};
 use wg_tree::{Direction, Named};
 use wg_typed::{ConstValue, TypeTree, TypedBufferType, TypedExpr, TypedStep};
 use wg_words::{Name, Place, Words};
 
 /// What a name with methods or elements of its own stands for.
-#[derive(Drop)]
+#[derive(Clone, Copy, Debug, PartialEq, Eq)]
 pub enum Object {
     Buffer {
         buffer: u32,
@@ -18,12 +18,11 @@ pub enum Object {
         standing: Standing,
         sharing: Sharing,
     },
-    /// An output, or an element of an output array; an array itself has no element.
+    /// An output, or an array of outputs, of which each element is an output.
     Output {
         output: u32,
         array: bool,
         record: Option<u32>,
-        element: Option<TypedExpr>,
     },
     Handle {
         handle: u32,
@@ -54,14 +53,11 @@ pub enum Meant {
         variable: u32,
         of: TypeTree,
     },
-    Local {
-        local: u32,
+    /// A variable of the function around: a parameter that is no object, or a local.
+    Variable {
+        variable: u32,
         of: TypeTree,
         constant: bool,
-    },
-    Parameter {
-        parameter: u32,
-        of: TypeTree,
     },
     Object {
         object: Object,
@@ -107,7 +103,7 @@ pub enum Sharing {
 #[derive(Drop)]
 pub enum Act {
     Step {
-        step: TypedStep,
+        step: Boxed<TypedStep>,
     },
     Barrier {
         syncs: bool,
@@ -116,14 +112,14 @@ pub enum Act {
         group: bool,
         output: u32,
         record: u32,
-        element: Option<TypedExpr>,
-        amount: TypedExpr,
+        element: Option<Boxed<TypedExpr>>,
+        amount: Boxed<TypedExpr>,
     },
     Increment {
         group: bool,
         output: u32,
-        element: Option<TypedExpr>,
-        amount: TypedExpr,
+        element: Option<Boxed<TypedExpr>>,
+        amount: Boxed<TypedExpr>,
     },
     Complete {
         handle: u32,
@@ -134,16 +130,18 @@ pub enum Act {
     },
 }
 
-/// What an expression is in which no rule is broken. An act has the place of the called name.
+/// What an expression is in which no rule is broken. An output that is an element of an array has that element's index. An
+/// act has the place of the called name.
 #[derive(Drop)]
 pub enum Value {
     Typed {
         of: TypeTree,
         standing: Standing,
-        tree: TypedExpr,
+        tree: Boxed<TypedExpr>,
     },
     Object {
         object: Object,
+        element: Option<Boxed<TypedExpr>>,
     },
     Act {
         name: Place,

@@ -1,0 +1,11 @@
+pub mod Placement
+pub mod Room
+pub mod Sound
+pub mod SoundCalls
+pub mod SoundExpr
+pub mod SoundForms
+pub mod SoundOperators
+pub mod SoundStep
+pub mod SoundStmt
+pub mod StandingTypes
+pub mod Tests

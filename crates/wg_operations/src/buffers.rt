@@ -1,4 +1,4 @@
-ghost use Rattle.std.specs.Prelude.{◌≡◌, false, Ok};
+ghost use Rattle.std.specs.Prelude.{◌≡◌, false, Ok, OnOk};
 ghost use Rattle.wg_code.specs.Functions.{missing};
 ghost use Rattle.wg_code.specs.OpMeaning.{does};
 ghost use Rattle.wg_code.specs.declared.op.Op.TheOpen.{Op-F};
@@ -44,6 +44,7 @@ pub fn set_buffer<M: Memory>(
 ) -> Result<End, Halt>
     ensures says { Runs (does (around_of around.now) (λ f. missing false) (Op-F.BufferPut buffer at a)) registers.now s.now (M.trace mem.old) result registers.now s.now (M.trace mem.new) }
     ensures grows { Keeps result (M.trace mem.old) (M.trace mem.new) }
+    ensures silent { OnOk result ((M.trace mem.new).log ≡ (M.trace mem.old).log) }
 {
     let _ = around;
     let _ = s;
@@ -65,6 +66,7 @@ pub fn add_to_buffer<M: Memory>(
 ) -> Result<End, Halt>
     ensures says { Runs (does (around_of around.now) (λ f. missing false) (Op-F.BufferAdd buffer at a)) registers.now s.now (M.trace mem.old) result registers.now s.now (M.trace mem.new) }
     ensures grows { Keeps result (M.trace mem.old) (M.trace mem.new) }
+    ensures silent { OnOk result ((M.trace mem.new).log ≡ (M.trace mem.old).log) }
 {
     let _ = around;
     let _ = s;

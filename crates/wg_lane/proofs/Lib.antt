@@ -1,0 +1,6 @@
+mod Calls
+mod Growth
+mod Layers
+mod Leaf
+mod Rest
+mod Sizes

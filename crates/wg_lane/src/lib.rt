@@ -1,0 +1,9 @@
+//! Runs the bodies of node code on a lane, over any memory, without tests of what they name.
+#![tactic(auto)]
+
+mod body;
+mod leaves;
+mod start;
+
+pub use body::run_body;
+pub use start::{GroupSpot, around, coordinates};

@@ -80,3 +80,6 @@ fn has_words<V: View>(view: &V, log: &[Seen]) -> bool
     log.iter()
         .all(|seen| view.word(seen.buffer, seen.word) == seen.value)
 }
+
+#[cfg(test)]
+mod tests;

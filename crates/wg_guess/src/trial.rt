@@ -1,6 +1,6 @@
 ghost use Rattle.std.specs.Prelude.{◌≡◌, ◌≤◌, ℕ, [], ◌∷◌, ◌++◌, length, List, IfOk, OnOk};
 ghost use Rattle.wg_machine.specs.declared.memory.Write.{Write as Written};
-ghost use Rattle.wg_machine.specs.Buffers.{Buffers, buffer_at, word_at, exchanged, signed_rank};
+ghost use Rattle.wg_machine.specs.Buffers.{Buffers, buffer_at, word_at};
 ghost use Rattle.wg_machine.specs.Effects.{Reads, Writes as Wrote, OnlyLogs};
 ghost use Rattle.wg_guess.specs.declared.touched.WordNow.TheVariants.{Known as IsKnown};
 ghost use Rattle.wg_guess.specs.declared.touched.WordNow.TheVariants.{Added as IsAddedTo};
@@ -42,30 +42,6 @@ fn after(write: Write, now: WordNow) -> WordNow
             WordNow::Known(old) => WordNow::Known(old.wrapping_add(value)),
             WordNow::Added(sum) => WordNow::Added(sum.wrapping_add(value)),
         },
-    }
-}
-
-fn rank(word: Word) -> Word
-    ensures { result ≡ signed_rank word }
-{
-    word.wrapping_add(1 << 31)
-}
-
-/// What an interlocked form leaves in place of an old word.
-fn changed(op: Atomic, old: Word, compare: Word, value: Word) -> Word
-    ensures { result ≡ exchanged op old compare value }
-{
-    match op {
-        Atomic::Min => old.min(value),
-        Atomic::MinSigned => { if rank(value) < rank(old) { value } else { old } }
-        Atomic::Max => old.max(value),
-        Atomic::MaxSigned => { if rank(old) < rank(value) { value } else { old } }
-        Atomic::And => old & value,
-        Atomic::Or => old | value,
-        Atomic::Xor => old ^ value,
-        Atomic::Add => old.wrapping_add(value),
-        Atomic::Exchange => value,
-        Atomic::CompareExchange => { if old == compare { value } else { old } }
     }
 }
 
@@ -198,8 +174,11 @@ impl<'a, V: View> Memory for Trial<'a, V> {
         self.write(Write::Set {
             buffer,
             word,
-            value: changed(op, found, compare, value),
+            value: op.exchanged(found, compare, value),
         })?;
         Ok(found)
     }
 }
+
+#[cfg(test)]
+mod tests;

@@ -1,155 +1,136 @@
--- A budget added to the units that it reaches, unit by unit.
-use Rattle.std.proofs.Common.{◌≡◌, ℕ, zero, suc, ◌+◌, ◌<◌, ◌≤◌, Bool, true, false, if◌then◌else◌, List, [], ◌∷◌, ◌++◌, length, get_or, slice_index, slice_index_or, refl, sym, ◌∙◌, ap, subst, arith, inl, inr, length-append, ◌⊎◌}
-use Rattle.std.specs.List.{Contains}
-use Rattle.std.proofs.lemmas.Bool.{cases_lt}
+-- What one more of a budget does to the sums of the row.
+use Rattle.std.proofs.Common.{◌≡◌, ℕ, zero, suc, ◌+◌, ◌-◌, ◌<◌, ◌≤◌, ◌==◌, ◌&&◌, Bool, if◌then◌else◌, List, [], ◌∷◌, ◌++◌, length, get_or, set, drop, refl, sym, ◌∙◌, ap, arith, inl, inr}
+use Rattle.std.specs.Prelude.{nat_lt}
 use Rattle.std.proofs.lemmas.Bool.Decides.{eqb_tells}
-use Rattle.std.proofs.lemmas.List.{get_or_append_left, get_or-set_same, get_or-set_other, get_or_past}
-use Rattle.std.proofs.lemmas.List.Elements.{Contains-push}
-use Rattle.wg_need.specs.Scratch.{AreClear, AreListed, AreTouched, AddsBudget, IsTouched}
+use Rattle.std.proofs.lemmas.Grind.{common_steps}
+use Rattle.std.proofs.lemmas.List.{drop-append-le, drop-set-add, get_or-drop, get_or-set_same, get_or-set_other, length-drop}
+use Rattle.wg_need.specs.declared.sums.Budget.{Budget}
+use Rattle.wg_need.specs.declared.sums.Seen.{Seen}
+use Rattle.wg_need.specs.declared.table.Need.{Need}
+use Rattle.wg_need.specs.Rows.{need_in, IsSoundRow}
+use Rattle.wg_need.specs.Scratch.{seen_at, owed, IsOpenRow}
 
--- a place in a list from one on
-abbrev pub IsAhead : List ℕ → ℕ → ℕ → Type 0
-IsAhead xs i v = (k : ℕ) × (i ≤ k) × (k < length xs) × (slice_index xs k ≡ v)
+need_in-push : (row : List Need) (n : Need) (v : ℕ) → need_in (row ++ n ∷ []) v ≡ need_in row v + (if n.unit == v then n.records else 0)
+need_in-push [] n v = omega arith
+need_in-push (m ∷ row) n v = omega (arith, need_in-push row n v)
 
-same_read : (xs : List ℕ) (k d e : ℕ) → k < length xs → get_or xs k d ≡ get_or xs k e
-same_read [] k d e h = absurd (omega (arith, h))
-same_read (x ∷ xs) zero d e h = refl
-same_read (x ∷ xs) (suc k) d e h = same_read xs k d e (omega (arith, h))
+-- more records of a need
+need_in-set : (row : List Need) (k v more : ℕ) (d n : Need) → k < length row → n.unit ≡ (get_or row k d).unit → n.records ≡ (get_or row k d).records + more
+    → need_in (set row k n) v ≡ need_in row v + (if n.unit == v then more else 0)
+need_in-set [] k v more d n h u r = absurd (omega (arith, h))
+need_in-set (m ∷ row) zero v more d n h u r =
+    elim (eqb_tells m.unit v) [
+      | inl same ↦ rw (u, same.0) (omega (arith, r))
+      | inr other ↦ rw (u, other.0) (omega arith)
+    ]
+need_in-set (m ∷ row) (suc k) v more d n h u r = omega (arith, need_in-set row k v more d n (omega (arith, h)) u r)
 
-pub all_ahead : (xs : List ℕ) (v : ℕ) → Contains xs v → IsAhead xs 0 v
-all_ahead xs v c = (c.0, omega arith, c.1, same_read xs c.0 0 v c.1 ∙ c.2)
+owed_none : (b : Budget) (start : ℕ) (seen : List Seen) (v : ℕ) → (seen_at seen v).place ≤ start → owed b start seen v ≡ 0
+owed_none b start seen v h = grind (arith, common_steps, h)
 
--- one place further, for what does not stand there
-pub further : (xs : List ℕ) (i v : ℕ) → (v ≡ slice_index xs i → ⊥) → IsAhead xs i v → IsAhead xs (i + 1) v
-further xs i v differs a =
-    elim (cases_lt i a.0) [
-      | inl less ↦ (a.0, omega (arith, less), a.2, a.3)
-      | inr past ↦
-          let e : i ≡ a.0 = omega (arith, past, a.1) in
-          absurd (differs (sym a.3 ∙ ap (λ (k : ℕ). slice_index xs k) (sym e)))
+owed_other : (b : Budget) (start : ℕ) (seen : List Seen) (v : ℕ) → ((seen_at seen v).budget ≡ b.number → ⊥) → owed b start seen v ≡ 0
+owed_other b start seen v h = grind (arith, common_steps, h)
+
+owed_all : (b : Budget) (start : ℕ) (seen : List Seen) (v : ℕ) → start < (seen_at seen v).place → (seen_at seen v).budget ≡ b.number → owed b start seen v ≡ b.most
+owed_all b start seen v h e = grind (arith, common_steps, h, e)
+
+none_in : (row : List Need) (v : ℕ) → ((j : ℕ) (d : Need) → j < length row → (get_or row j d).unit ≡ v → ⊥) → need_in row v ≡ 0
+none_in [] v h = refl
+none_in (m ∷ row) v h =
+    elim (eqb_tells m.unit v) [
+      | inl same ↦ absurd (h 0 m (omega arith) same.1)
+      | inr other ↦ rw other.0 (omega (arith, none_in row v (λ j d less e. h (suc j) d (omega (arith, less)) e)))
     ]
 
-pub nothing_ahead : (xs : List ℕ) (i v : ℕ) → length xs ≤ i → IsAhead xs i v → ⊥
-nothing_ahead xs i v past a = absurd (omega (arith, past, a.1, a.2))
+-- the records of a unit that stands once in a row
+one_in : (row : List Need) (k v : ℕ) (d : Need) → k < length row → (get_or row k d).unit ≡ v → ((j : ℕ) (e : Need) → j < length row → (get_or row j e).unit ≡ v → j ≡ k)
+    → need_in row v ≡ (get_or row k d).records
+one_in [] k v d h is only = absurd (omega (arith, h))
+one_in (m ∷ row) zero v d h is only =
+    elim (eqb_tells m.unit v) [
+      | inl same ↦ rw same.0 (omega (arith, none_in row v (λ j e less u. absurd (omega (arith, only (suc j) e (omega (arith, less)) u)))))
+      | inr other ↦ absurd (other.1 is)
+    ]
+one_in (m ∷ row) (suc k) v d h is only =
+    elim (eqb_tells m.unit v) [
+      | inl same ↦ absurd (omega (arith, only 0 m (omega arith) same.1))
+      | inr other ↦ rw other.0 (omega (arith, one_in row k v d (omega (arith, h)) is (λ j e less u. omega (arith, only (suc j) e (omega (arith, less)) u))))
+    ]
 
--- what the mark of a unit still adds
-abbrev pub owed : ℕ → List Bool → ℕ → ℕ
-owed most marks v = if slice_index_or marks v false then most else 0
-
-pub record AreAdding (most : ℕ) (reached : List ℕ) (old_marks : List Bool) (old_sums : List ℕ) (i : ℕ) (marks : List Bool) (sums touched : List ℕ) : Type 0 where
-  pub sums_are : (v : ℕ) → slice_index sums v + owed most marks v ≡ slice_index old_sums v + owed most old_marks v
-  pub was : (v : ℕ) → slice_index_or marks v false ≡ true → slice_index_or old_marks v false ≡ true
-  pub ahead : (v : ℕ) → slice_index_or marks v false ≡ true → IsAhead reached i v
-  pub touched_are : AreTouched sums touched
-
-pub none_added : (most : ℕ) (reached : List ℕ) (marks : List Bool) (sums touched : List ℕ) → AreListed marks reached → AreTouched sums touched
-    → AreAdding most reached marks sums 0 marks sums touched
-none_added most reached marks sums touched listed are =
-    record { sums_are = λ v. refl; was = λ v h. h; ahead = λ v h. all_ahead reached v (listed v h); touched_are = are }
-
-pub none_more : (most : ℕ) (reached : List ℕ) (old_marks : List Bool) (old_sums : List ℕ) (i : ℕ) (marks : List Bool) (sums touched : List ℕ)
-    → AreAdding most reached old_marks old_sums i marks sums touched → slice_index_or marks (slice_index reached i) false ≡ false
-    → AreAdding most reached old_marks old_sums (i + 1) marks sums touched
-none_more most reached old_marks old_sums i marks sums touched are unmarked =
-    record {
-      sums_are = are.sums_are;
-      was = are.was;
-      ahead = λ v h. further reached i v (λ e. absurd (cc (h, e, unmarked))) (are.ahead v h);
-      touched_are = are.touched_are;
-    }
-
-within_marked : (marks : List Bool) (v : ℕ) → slice_index_or marks v false ≡ true → v < length marks
-within_marked marks v h = elim (cases_lt v (length marks)) [ inl below ↦ below | inr past ↦ absurd (cc (get_or_past marks v false past, h)) ]
-
-still_listed : (old new : List ℕ) (unit v : ℕ) → (new ≡ old ++ unit ∷ []) → Contains old v → Contains new v
-still_listed old new unit v e c = let P : List ℕ → Type 0 = λ xs. Contains xs v in
-    subst P (sym e) (c.0, omega (arith, c.1, length-append old (unit ∷ [])), get_or_append_left old (unit ∷ []) v c.0 c.1 ∙ c.2)
-
-pub one_more : (most : ℕ) (reached : List ℕ) (old_marks : List Bool) (old_sums : List ℕ) (i : ℕ) (marks new_marks : List Bool) (sums new touched new_touched : List ℕ)
-    → AreAdding most reached old_marks old_sums i marks sums touched → slice_index_or marks (slice_index reached i) false ≡ true → length marks ≡ length sums
-    → AddsBudget sums new marks new_marks (slice_index reached i) most → IsTouched sums touched new_touched (slice_index reached i)
-    → AreAdding most reached old_marks old_sums (i + 1) new_marks new new_touched
-one_more most reached old_marks old_sums i marks new_marks sums new touched new_touched are marked same added listed =
-    record {
-      sums_are = λ v. elim (eqb_tells v u) [
-        | inl same_unit ↦ rw same_unit.1 here
-        | inr other ↦ rw (added.sums, added.marks, get_or-set_other sums u v (slice_index sums u + most) 0 other.1, get_or-set_other marks u v false false other.1) (are.sums_are v)
-      ];
-      was = λ v h. are.was v (before v h);
-      ahead = λ v h. further reached i v (apart v h) (are.ahead v (before v h));
-      touched_are = λ v h. elim (eqb_tells v u) [
-        | inl same_unit ↦ rw same_unit.1 mine
-        | inr other ↦ kept v (are.touched_are v (omega (arith, h, ap (λ (xs : List ℕ). slice_index xs v) added.sums, get_or-set_other sums u v (slice_index sums u + most) 0 other.1)))
-      ];
-    }
+pub sum_pushed : (b : Budget) (start : ℕ) (seen : List Seen) (needs : List Need) (t v : ℕ) (n : Need) (s : Seen)
+    → start ≤ length needs → t < length seen → (seen_at seen t).place ≤ start → n.unit ≡ t → n.records ≡ b.most → start < s.place → s.budget ≡ b.number
+    → need_in (drop start (needs ++ n ∷ [])) v + owed b start seen v ≡ need_in (drop start needs) v + owed b start (set seen t s) v
+sum_pushed b start seen needs t v n s begun within fresh is_unit is_most later is_budget =
+    elim (eqb_tells v t) [
+      | inl same ↦ rw same.1 (omega (arith, split t, hit, owed_none b start seen t fresh, all))
+      | inr other ↦ omega (arith, split v, miss v other.1, ap (λ (x : Seen). if nat_lt start x.place && (x.budget == b.number) then b.most else 0) (get_or-set_other seen t v s (record { place = 0; budget = 0 }) other.1))
+    ]
   where
-    u : ℕ
-    u = slice_index reached i
+    split : (w : ℕ) → need_in (drop start (needs ++ n ∷ [])) w ≡ need_in (drop start needs) w + (if n.unit == w then n.records else 0)
+    split w = ap (λ (xs : List Need). need_in xs w) (drop-append-le start needs (n ∷ []) begun) ∙ need_in-push (drop start needs) n w
 
-    inside : slice_index reached i < length marks
-    inside = within_marked marks (slice_index reached i) marked
+    hit : (if n.unit == t then n.records else 0) ≡ b.most
+    hit = elim (eqb_tells n.unit t) [ inl same ↦ rw same.0 is_most | inr other ↦ absurd (other.1 is_unit) ]
 
-    gone : slice_index_or new_marks (slice_index reached i) false ≡ false
-    gone = ap (λ (xs : List Bool). slice_index_or xs (slice_index reached i) false) added.marks ∙ get_or-set_same marks (slice_index reached i) false false inside
+    miss : (w : ℕ) → (w ≡ t → ⊥) → (if n.unit == w then n.records else 0) ≡ 0
+    miss w apart = elim (eqb_tells n.unit w) [ inl same ↦ absurd (apart (sym same.1 ∙ is_unit)) | inr other ↦ rw other.0 refl ]
 
-    sum_is : slice_index new (slice_index reached i) ≡ slice_index sums (slice_index reached i) + most
-    sum_is = ap (λ (xs : List ℕ). slice_index xs (slice_index reached i)) added.sums
-        ∙ get_or-set_same sums (slice_index reached i) (slice_index sums (slice_index reached i) + most) 0 (omega (arith, inside, same))
+    new : seen_at (set seen t s) t ≡ s
+    new = get_or-set_same seen t s (record { place = 0; budget = 0 }) within
 
-    owed_none : owed most new_marks (slice_index reached i) ≡ 0
-    owed_none = rw gone refl
+    all : owed b start (set seen t s) t ≡ b.most
+    all = owed_all b start (set seen t s) t (omega (arith, later, ap (λ (x : Seen). x.place) new)) (ap (λ (x : Seen). x.budget) new ∙ is_budget)
 
-    owed_all : owed most marks (slice_index reached i) ≡ most
-    owed_all = rw marked refl
-
-    here : slice_index new (slice_index reached i) + owed most new_marks (slice_index reached i) ≡ slice_index old_sums (slice_index reached i) + owed most old_marks (slice_index reached i)
-    here = omega (arith, sum_is, owed_none, owed_all, are.sums_are (slice_index reached i))
-
-    apart : (v : ℕ) → slice_index_or new_marks v false ≡ true → (v ≡ slice_index reached i → ⊥)
-    apart v h e = absurd (cc (h, e, gone))
-
-    before : (v : ℕ) → slice_index_or new_marks v false ≡ true → slice_index_or marks v false ≡ true
-    before v h = sym (get_or-set_other marks (slice_index reached i) v false false (apart v h)) ∙ sym (ap (λ (xs : List Bool). slice_index_or xs v false) added.marks) ∙ h
-
-    kept : (v : ℕ) → Contains touched v → Contains new_touched v
-    kept v c = elim (cases_lt 0 (slice_index sums (slice_index reached i))) [
-      | inl some ↦ let P : List ℕ → Type 0 = λ xs. Contains xs v in subst P (sym (listed.again some)) c
-      | inr none ↦ still_listed touched new_touched (slice_index reached i) v (listed.first (omega (arith, none))) c
+pub sum_raised : (b : Budget) (start : ℕ) (seen : List Seen) (needs : List Need) (t v k : ℕ) (d n : Need) (s : Seen)
+    → t < length seen → start ≤ k → k < length needs → (get_or needs k d).unit ≡ t → ((seen_at seen t).budget ≡ b.number → ⊥)
+    → n.unit ≡ t → n.records ≡ (get_or needs k d).records + b.most → start < s.place → s.budget ≡ b.number
+    → need_in (drop start (set needs k n)) v + owed b start seen v ≡ need_in (drop start needs) v + owed b start (set seen t s) v
+sum_raised b start seen needs t v k d n s within from h was fresh is_unit is_most later is_budget =
+    elim (eqb_tells v t) [
+      | inl same ↦ rw same.1 (omega (arith, split t, hit, owed_other b start seen t fresh, all))
+      | inr other ↦ omega (arith, split v, miss v other.1, ap (λ (x : Seen). if nat_lt start x.place && (x.budget == b.number) then b.most else 0) (get_or-set_other seen t v s (record { place = 0; budget = 0 }) other.1))
     ]
-
-    mine : Contains new_touched (slice_index reached i)
-    mine = elim (cases_lt 0 (slice_index sums (slice_index reached i))) [
-      | inl some ↦ kept (slice_index reached i) (are.touched_are (slice_index reached i) some)
-      | inr none ↦ let P : List ℕ → Type 0 = λ xs. Contains xs (slice_index reached i) in subst P (sym (listed.first (omega (arith, none)))) (Contains-push touched (slice_index reached i))
-    ]
-
-not_true : (b : Bool) → (b ≡ true → ⊥) → b ≡ false
-not_true true h = absurd (h refl)
-not_true false h = refl
-
-either : (b : Bool) → (b ≡ true) ⊎ (b ≡ false)
-either true = inl refl
-either false = inr refl
-
--- the next unit of the list, marked or not
-pub next_added : (most : ℕ) (reached : List ℕ) (old_marks : List Bool) (old_sums : List ℕ) (i : ℕ) (marks new_marks : List Bool) (sums new touched new_touched : List ℕ)
-    → AreAdding most reached old_marks old_sums i marks sums touched → length marks ≡ length sums
-    → (slice_index_or marks (slice_index reached i) false ≡ true → AddsBudget sums new marks new_marks (slice_index reached i) most)
-    → (slice_index_or marks (slice_index reached i) false ≡ true → IsTouched sums touched new_touched (slice_index reached i))
-    → (slice_index_or marks (slice_index reached i) false ≡ false → (new ≡ sums) × (new_marks ≡ marks) × (new_touched ≡ touched))
-    → AreAdding most reached old_marks old_sums (i + 1) new_marks new new_touched
-next_added most reached old_marks old_sums i marks new_marks sums new touched new_touched are same added listed others =
-    elim (either (slice_index_or marks (slice_index reached i) false)) [
-      | inl marked ↦ one_more most reached old_marks old_sums i marks new_marks sums new touched new_touched are marked same (added marked) (listed marked)
-      | inr unmarked ↦
-          let o = others unmarked in
-          rw (o.0, o.1, o.2) (none_more most reached old_marks old_sums i marks sums touched are unmarked)
-    ]
-
-pub all_added : (most : ℕ) (reached : List ℕ) (old_marks : List Bool) (old_sums : List ℕ) (i : ℕ) (marks : List Bool) (sums touched : List ℕ)
-    → AreAdding most reached old_marks old_sums i marks sums touched → length reached ≤ i
-    → AreClear marks × ((v : ℕ) → slice_index sums v ≡ slice_index old_sums v + owed most old_marks v)
-all_added most reached old_marks old_sums i marks sums touched are past = (clear, λ v. let none : owed most marks v ≡ 0 = rw (clear v) refl in omega (arith, are.sums_are v, none))
   where
-    clear : AreClear marks
-    clear v = not_true (slice_index_or marks v false) (λ h. nothing_ahead reached i v past (are.ahead v h))
+    j : ℕ
+    j = k - start
+
+    at : start + j ≡ k
+    at = omega (arith, from)
+
+    there : get_or (drop start needs) j d ≡ get_or needs k d
+    there = get_or-drop start needs j d ∙ ap (λ (i : ℕ). get_or needs i d) at
+
+    split : (w : ℕ) → need_in (drop start (set needs k n)) w ≡ need_in (drop start needs) w + (if n.unit == w then b.most else 0)
+    split w =
+        ap (λ (i : ℕ). need_in (drop start (set needs i n)) w) (sym at)
+        ∙ ap (λ (xs : List Need). need_in xs w) (drop-set-add start needs j n)
+        ∙ need_in-set (drop start needs) j w b.most d n (omega (arith, length-drop start needs, h, from)) (is_unit ∙ sym was ∙ ap (λ (x : Need). x.unit) (sym there)) (is_most ∙ ap (λ (x : Need). x.records + b.most) (sym there))
+
+    hit : (if n.unit == t then b.most else 0) ≡ b.most
+    hit = elim (eqb_tells n.unit t) [ inl same ↦ rw same.0 refl | inr other ↦ absurd (other.1 is_unit) ]
+
+    miss : (w : ℕ) → (w ≡ t → ⊥) → (if n.unit == w then b.most else 0) ≡ 0
+    miss w apart = elim (eqb_tells n.unit w) [ inl same ↦ absurd (apart (sym same.1 ∙ is_unit)) | inr other ↦ rw other.0 refl ]
+
+    new : seen_at (set seen t s) t ≡ s
+    new = get_or-set_same seen t s (record { place = 0; budget = 0 }) within
+
+    all : owed b start (set seen t s) t ≡ b.most
+    all = owed_all b start (set seen t s) t (omega (arith, later, ap (λ (x : Seen). x.place) new)) (ap (λ (x : Seen). x.budget) new ∙ is_budget)
+
+-- an open row is sound
+pub sound_row : (start limit : ℕ) (seen : List Seen) (needs : List Need) → IsOpenRow start limit seen needs → IsSoundRow (length seen) (drop start needs)
+sound_row start limit seen needs row k d h =
+    let less : start + k < length needs = omega (arith, h, length-drop start needs) in
+    let here : get_or (drop start needs) k d ≡ get_or needs (start + k) d = get_or-drop start needs k d in
+    let e = row.each (start + k) d (omega arith) less in
+    rw here (record {
+      within = e.within;
+      some = e.some;
+      whole =
+          one_in (drop start needs) k (get_or needs (start + k) d).unit d h (ap (λ (x : Need). x.unit) here) (λ j f below u.
+          let g = row.each (start + j) f (omega arith) (omega (arith, below, length-drop start needs)) in
+          let same : (get_or needs (start + j) f).unit ≡ (get_or needs (start + k) d).unit = ap (λ (x : Need). x.unit) (sym (get_or-drop start needs j f)) ∙ u in
+          omega (arith, e.place, g.place, ap (λ (x : ℕ). (seen_at seen x).place) same))
+          ∙ ap (λ (x : Need). x.records) here;
+    })

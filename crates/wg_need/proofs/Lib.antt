@@ -1,4 +1,4 @@
 mod Adding
-mod Bounds
+mod Blocks
 mod Built
-mod Gathering
+mod Reaching

@@ -4,4 +4,4 @@
 mod sums;
 mod table;
 
-pub use table::{Need, NeedList, needs_of};
+pub use table::{Need, Needs, needs_of};

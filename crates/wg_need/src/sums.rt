@@ -1,131 +1,197 @@
-ghost use Rattle.std.specs.Prelude.{◌≡◌, ℕ, ◌+◌, ◌<◌, ◌^◌, ◌||◌, ◌==◌, true, false, if◌then◌else◌, length, slice_index, slice_index_or, IfOk, OnOk};
-ghost use Rattle.std.specs.List.{list_any, Contains};
+ghost use Rattle.std.specs.Prelude.{◌≡◌, ℕ, ◌+◌, ◌<◌, ◌≤◌, ◌||◌, ◌==◌, if◌then◌else◌, length, take, drop, IfOk, OnOk, IsTrue};
+ghost use Rattle.std.specs.List.{list_any};
 ghost use Rattle.wg_machine.specs.Need.{is_target, reaches, need_from};
-ghost use Rattle.wg_need.specs.Scratch.{AreZeros, AreClear, AreListed, AreTouched, AddsBudget, IsTouched};
+ghost use Rattle.wg_need.specs.Rows.{need_in, IsSoundRow};
+ghost use Rattle.wg_need.specs.Scratch.{AreOrdered, IsCursor, IsOpenRow, is_on, owed, seen_at};
 
-use std::alloc::{AllocError, Global};
+use crate::table::Need;
+use std::alloc::AllocError;
 use wg_machine::Output;
 
-/// Adds to rows of zeros, by unit, how many records one launch of a unit with these outputs and budgets may send. It
-/// gives the units that it adds to, in the time of the targets.
+/// One more than the index of a unit's need in the block of needs, and the last budget that was added to it.
+#[derive(Clone, Copy)]
+pub struct Seen {
+    pub place: usize,
+    pub budget: usize,
+}
+
+/// A budget's number and its `MaxRecords`.
+#[derive(Clone, Copy)]
+pub struct Budget {
+    pub number: usize,
+    pub most: u32,
+}
+
+/// Adds a row to needs: how many records one launch of a unit with these outputs and budgets may send to each unit. It
+/// takes the time of the targets where the outputs stand in the order of their budgets, as it may be `seen` by unit.
 pub fn sum_up(
-    alloc: Global,
     outputs: &[Output],
     budgets: &[u32],
-    sums: &mut [u128],
-    marks: &mut [bool],
-) -> Result<Vec<u32>, AllocError>
-    requires same { length marks.old ≡ length sums.old }
-    requires zeros { AreZeros sums.old }
-    requires clear { AreClear marks.old }
-    requires fits { (v : ℕ) → need_from outputs.now 0 budgets.now v < 2 ^ 128 }
-    ensures needs { OnOk result ((v : ℕ) → v < length sums.old → slice_index sums.new v ≡ need_from outputs.now 0 budgets.now v) }
-    ensures clear { OnOk result (AreClear marks.new) }
-    ensures touched { IfOk result (λ touched. AreTouched sums.new touched.items) }
+    seen: &mut [Seen],
+    needs: &mut Vec<Need>,
+) -> Result<(), AllocError>
+    requires low { (v : ℕ) → (seen_at seen.old v).place ≤ length needs.old.items }
+    ensures needs { OnOk result ((v : ℕ) → v < length seen.old → need_in (drop (length needs.old.items) needs.new.items) v ≡ need_from outputs.now 0 budgets.now v) }
+    ensures sound { OnOk result (IsSoundRow (length seen.old) (drop (length needs.old.items) needs.new.items)) }
+    ensures kept { OnOk result (take (length needs.old.items) needs.new.items ≡ needs.old.items) }
+    ensures longer { OnOk result (length needs.old.items ≤ length needs.new.items) }
+    ensures low { OnOk result ((v : ℕ) → (seen_at seen.new v).place ≤ length needs.new.items) }
 {
-    let mut touched = Vec::new(alloc);
-    for (budget, most) in budgets.iter().enumerate() {
-        let reached = reach(alloc, outputs, budget, marks)?;
-        add_reached(&reached, *most, sums, marks, &mut touched)?;
+    let start = needs.len();
+    let ordered = is_ordered(outputs);
+    let mut at = 0;
+    for (number, most) in budgets.iter().enumerate() {
+        let budget = Budget {
+            number,
+            most: *most,
+        };
+        at = add_budget(outputs, ordered, at, budget, start, seen, needs)?;
     }
-    Ok(touched)
+    Ok(())
 }
 
-/// Marks the units that some element of some output on a budget targets, and no others, and lists them.
-fn reach(
-    alloc: Global,
-    outputs: &[Output],
-    budget: usize,
-    marks: &mut [bool],
-) -> Result<Vec<u32>, AllocError>
-    requires { AreClear marks.old }
-    ensures marks { OnOk result ((v : ℕ) → v < length marks.old → slice_index_or marks.new v false ≡ reaches outputs.now budget v) }
-    ensures listed { IfOk result (λ reached. AreListed marks.new reached.items) }
+/// Whether outputs stand in the order of their budgets.
+fn is_ordered(outputs: &[Output]) -> bool
+    ensures { IsTrue result → AreOrdered outputs.now }
 {
-    let mut reached = Vec::new(alloc);
+    let mut least = 0;
     for output in outputs {
-        if output.budget as usize == budget {
-            mark_targets(output.elements.as_slice(), marks, &mut reached)?;
+        if output.budget < least {
+            return false;
+        }
+        least = output.budget;
+    }
+    true
+}
+
+/// Adds a budget to the units that its outputs target. In ordered outputs they begin at a place, and it gives the next.
+fn add_budget(
+    outputs: &[Output],
+    ordered: bool,
+    at: usize,
+    budget: Budget,
+    start: usize,
+    seen: &mut [Seen],
+    needs: &mut Vec<Need>,
+) -> Result<usize, AllocError>
+    requires ordered { IsTrue ordered → AreOrdered outputs.now }
+    requires cursor { IsTrue ordered → IsCursor outputs.now budget.number at }
+    requires open { IsOpenRow start budget.number seen.old needs.old.items }
+    ensures cursor { IfOk result (λ next. IsTrue ordered → IsCursor outputs.now (budget.number + 1) next) }
+    ensures open { OnOk result (IsOpenRow start (budget.number + 1) seen.new needs.new.items) }
+    ensures kept { OnOk result (take start needs.new.items ≡ take start needs.old.items) }
+    ensures sums { OnOk result ((v : ℕ) → v < length seen.old → need_in (drop start needs.new.items) v ≡ need_in (drop start needs.old.items) v + (if reaches outputs.now budget.number v then budget.most else 0)) }
+{
+    if ordered {
+        return add_run(outputs, at, budget, start, seen, needs);
+    }
+    add_all(outputs, budget, start, seen, needs)?;
+    Ok(at)
+}
+
+/// Adds a budget to the units that its outputs target, where these stand together at a place. It gives the place behind.
+fn add_run(
+    outputs: &[Output],
+    from: usize,
+    budget: Budget,
+    start: usize,
+    seen: &mut [Seen],
+    needs: &mut Vec<Need>,
+) -> Result<usize, AllocError>
+    requires ordered { AreOrdered outputs.now }
+    requires cursor { IsCursor outputs.now budget.number from }
+    requires open { IsOpenRow start budget.number seen.old needs.old.items }
+    ensures cursor { IfOk result (IsCursor outputs.now (budget.number + 1)) }
+    ensures open { OnOk result (IsOpenRow start (budget.number + 1) seen.new needs.new.items) }
+    ensures kept { OnOk result (take start needs.new.items ≡ take start needs.old.items) }
+    ensures sums { OnOk result ((v : ℕ) → v < length seen.old → need_in (drop start needs.new.items) v ≡ need_in (drop start needs.old.items) v + (if reaches outputs.now budget.number v then budget.most else 0)) }
+{
+    let mut at = from;
+    while at < outputs.len() && outputs[at].budget as usize == budget.number {
+        add_targets(outputs[at].elements.as_slice(), budget, start, seen, needs)?;
+        at += 1;
+    }
+    Ok(at)
+}
+
+/// Adds a budget to the units that its outputs target, wherever these stand.
+fn add_all(
+    outputs: &[Output],
+    budget: Budget,
+    start: usize,
+    seen: &mut [Seen],
+    needs: &mut Vec<Need>,
+) -> Result<(), AllocError>
+    requires open { IsOpenRow start budget.number seen.old needs.old.items }
+    ensures open { OnOk result (IsOpenRow start (budget.number + 1) seen.new needs.new.items) }
+    ensures kept { OnOk result (take start needs.new.items ≡ take start needs.old.items) }
+    ensures sums { OnOk result ((v : ℕ) → v < length seen.old → need_in (drop start needs.new.items) v ≡ need_in (drop start needs.old.items) v + (if reaches outputs.now budget.number v then budget.most else 0)) }
+{
+    for output in outputs {
+        if output.budget as usize == budget.number {
+            add_targets(output.elements.as_slice(), budget, start, seen, needs)?;
         }
     }
-    Ok(reached)
+    Ok(())
 }
 
-/// Marks the targets of elements, and lists those that were not marked.
-fn mark_targets(
+/// Adds a budget of some records once to each unit that an element targets and that it was not added to.
+fn add_targets(
     elements: &[Option<u32>],
-    marks: &mut [bool],
-    reached: &mut Vec<u32>,
+    budget: Budget,
+    start: usize,
+    seen: &mut [Seen],
+    needs: &mut Vec<Need>,
 ) -> Result<(), AllocError>
-    requires { AreListed marks.old reached.old.items }
-    ensures marks { OnOk result ((v : ℕ) → v < length marks.old → slice_index_or marks.new v false ≡ (slice_index_or marks.old v false || list_any (is_target v) elements.now)) }
-    ensures listed { OnOk result (AreListed marks.new reached.new.items) }
+    requires open { IsOpenRow start (budget.number + 1) seen.old needs.old.items }
+    ensures open { OnOk result (IsOpenRow start (budget.number + 1) seen.new needs.new.items) }
+    ensures kept { OnOk result (take start needs.new.items ≡ take start needs.old.items) }
+    ensures on { OnOk result (0 < budget.most → (v : ℕ) → v < length seen.old → is_on start budget.number seen.new v ≡ (is_on start budget.number seen.old v || list_any (is_target v) elements.now)) }
+    ensures sums { OnOk result ((v : ℕ) → v < length seen.old → need_in (drop start needs.new.items) v + owed budget start seen.old v ≡ need_in (drop start needs.old.items) v + owed budget start seen.new v) }
 {
+    if budget.most == 0 {
+        return Ok(());
+    }
     for target in elements {
         if let Some(target) = target {
-            mark(*target, marks, reached)?;
+            add(*target, budget, start, seen, needs)?;
         }
     }
     Ok(())
 }
 
-/// Marks a unit, and lists it where it was not marked.
-fn mark(target: u32, marks: &mut [bool], reached: &mut Vec<u32>) -> Result<(), AllocError>
-    requires { AreListed marks.old reached.old.items }
-    ensures marks { OnOk result ((v : ℕ) → v < length marks.old → slice_index_or marks.new v false ≡ (slice_index_or marks.old v false || (target == v))) }
-    ensures listed { OnOk result (AreListed marks.new reached.new.items) }
-{
-    let place = target as usize;
-    if place < marks.len() && !marks[place] {
-        reached.push(target)?;
-        marks[place] = true;
-    }
-    Ok(())
-}
-
-/// Adds a budget's `MaxRecords` to the units that are marked, and unmarks them.
-fn add_reached(
-    reached: &[u32],
-    most: u32,
-    sums: &mut [u128],
-    marks: &mut [bool],
-    touched: &mut Vec<u32>,
+/// Adds a budget to a unit, if it was not added to it.
+fn add(
+    target: u32,
+    budget: Budget,
+    start: usize,
+    seen: &mut [Seen],
+    needs: &mut Vec<Need>,
 ) -> Result<(), AllocError>
-    requires same { length marks.old ≡ length sums.old }
-    requires listed { AreListed marks.old reached.now }
-    requires touched { AreTouched sums.old touched.old.items }
-    requires fits { (v : ℕ) → slice_index_or marks.old v false ≡ true → slice_index sums.old v + most < 2 ^ 128 }
-    ensures sums { OnOk result ((v : ℕ) → slice_index sums.new v ≡ slice_index sums.old v + (if slice_index_or marks.old v false then most else 0)) }
-    ensures clear { OnOk result (AreClear marks.new) }
-    ensures touched { OnOk result (AreTouched sums.new touched.new.items) }
+    requires open { IsOpenRow start (budget.number + 1) seen.old needs.old.items }
+    requires some { 0 < budget.most }
+    ensures open { OnOk result (IsOpenRow start (budget.number + 1) seen.new needs.new.items) }
+    ensures kept { OnOk result (take start needs.new.items ≡ take start needs.old.items) }
+    ensures on { OnOk result ((v : ℕ) → v < length seen.old → is_on start budget.number seen.new v ≡ (is_on start budget.number seen.old v || (target == v))) }
+    ensures sums { OnOk result ((v : ℕ) → v < length seen.old → need_in (drop start needs.new.items) v + owed budget start seen.old v ≡ need_in (drop start needs.old.items) v + owed budget start seen.new v) }
 {
-    for unit in reached {
-        add_to(*unit, most, sums, marks, touched)?;
+    let unit = target as usize;
+    if unit >= seen.len() {
+        return Ok(());
     }
-    Ok(())
-}
-
-/// Adds to one unit and unmarks it, if it is marked, and lists it where nothing was added before.
-fn add_to(
-    unit: u32,
-    most: u32,
-    sums: &mut [u128],
-    marks: &mut [bool],
-    touched: &mut Vec<u32>,
-) -> Result<(), AllocError>
-    requires same { length marks.old ≡ length sums.old }
-    requires fits { slice_index_or marks.old unit false ≡ true → slice_index sums.old unit + most < 2 ^ 128 }
-    ensures added { OnOk result (slice_index_or marks.old unit false ≡ true → AddsBudget sums.old sums.new marks.old marks.new unit most) }
-    ensures listed { OnOk result (slice_index_or marks.old unit false ≡ true → IsTouched sums.old touched.old.items touched.new.items unit) }
-    ensures others { OnOk result (slice_index_or marks.old unit false ≡ false → (sums.new ≡ sums.old) × (marks.new ≡ marks.old) × (touched.new.items ≡ touched.old.items)) }
-{
-    let place = unit as usize;
-    if place < marks.len() && marks[place] {
-        if sums[place] == 0 {
-            touched.push(unit)?;
-        }
-        sums[place] += u128::from(most);
-        marks[place] = false;
+    let place = seen[unit].place;
+    if place <= start {
+        needs.push(Need {
+            unit: target,
+            records: u128::from(budget.most),
+        })?;
+        seen[unit] = Seen {
+            place: needs.len(),
+            budget: budget.number,
+        };
+    } else if seen[unit].budget != budget.number {
+        needs[place - 1].records += u128::from(budget.most);
+        seen[unit].budget = budget.number;
     }
     Ok(())
 }

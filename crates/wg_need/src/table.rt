@@ -1,12 +1,13 @@
-ghost use Rattle.std.specs.Prelude.{◌≡◌, ℕ, ◌<◌, ◌^◌, All, IfOk, OnOk, [], ◌∷◌, ◌++◌, length, slice_index, slice_set};
-ghost use Rattle.wg_machine.specs.Need.{need, need_of};
-ghost use Rattle.wg_need.specs.Rows.{need_in, need_at, need_by, IsSoundRow};
-ghost use Rattle.wg_need.specs.Scratch.{AreZeros, AreClear, AreTouched};
+ghost use Rattle.std.specs.Prelude.{◌≡◌, ℕ, ◌-◌, ◌<◌, ◌≤◌, ◌^◌, All, IfOk, [], ◌∷◌, length, slice_get, slice_index, take, drop, unwrap_or};
+ghost use Rattle.wg_machine.specs.Need.{need};
+ghost use Rattle.wg_need.specs.Block.{AreEnds};
+ghost use Rattle.wg_need.specs.Rows.{need_at, need_by, IsSoundRow};
+ghost use Rattle.wg_need.specs.Scratch.{seen_at};
 
-use crate::sums::sum_up;
+use crate::sums::{Seen, sum_up};
 use std::alloc::{AllocError, Global};
+use std::marker::Model;
 use wg_machine::{Shape, Unit};
-use wg_words::Items;
 
 /// How many records a launch may send to a unit.
 #[derive(Clone, Copy, Debug, PartialEq, Eq)]
@@ -15,97 +16,111 @@ pub struct Need {
     pub records: u128,
 }
 
-pub type NeedList = Items<Need>;
+/// A row of needs for each unit, the rows one after the other in one block. `ends` has where each ends.
+#[derive(Debug, Drop)]
+pub struct Needs {
+    ends: Vec<usize>,
+    needs: Vec<Need>,
+}
+
+impl Model for Needs {
+    ghost use Rattle.std.specs.Prelude.{List, length};
+    ghost use Rattle.wg_need.specs.declared.table.Need.{Need};
+    ghost use Rattle.wg_need.specs.Block.{rows_from, AreEnds};
+
+    ghost Value = { List (List Need) };
+
+    ghost view = { λ n. rows_from 0 n.ends.items n.needs.items };
+
+    ghost invariant = { λ n. AreEnds 0 n.ends.items (length n.needs.items) };
+}
+
+impl Needs {
+    /// How many rows there are.
+    pub fn len(&self) -> usize
+        ensures { result ≡ length self.now }
+    {
+        self.ends.as_slice().len()
+    }
+
+    pub fn is_empty(&self) -> bool {
+        self.ends.is_empty()
+    }
+
+    /// The needs of a unit.
+    pub fn row(&self, unit: usize) -> &[Need]
+        requires { unit < length self.now }
+        ensures { result.now ≡ unwrap_or (slice_get self.now unit) [] }
+    {
+        row_of(self.ends.as_slice(), self.needs.as_slice(), unit)
+    }
+}
+
+/// A row of a block with these ends.
+fn row_of<'a>(ends: &[usize], needs: &'a [Need], row: usize) -> &'a [Need]
+    requires row { row < length ends.now }
+    requires ends { AreEnds 0 ends.now (length needs.now) }
+    ensures { result.now ≡ take (slice_index ends.now row - slice_index (0 ∷ ends.now) row) (drop (slice_index (0 ∷ ends.now) row) needs.now) }
+{
+    part_of(needs, begin_of(ends, row), ends[row])
+}
+
+/// The needs from one place up to another.
+fn part_of(needs: &[Need], begin: usize, end: usize) -> &[Need]
+    requires order { begin ≤ end }
+    requires within { end ≤ length needs.now }
+    ensures { result.now ≡ take (end - begin) (drop begin needs.now) }
+{
+    &needs[begin..end]
+}
+
+/// Where a row begins: where the one before it ends.
+fn begin_of(ends: &[usize], row: usize) -> usize
+    requires { row < length ends.now }
+    ensures { result ≡ slice_index (0 ∷ ends.now) row }
+{
+    if row == 0 {
+        return 0;
+    }
+    ends[row - 1]
+}
 
 /// By unit of a shape, what one launch of it may send to each unit, without those to which it may send none.
-pub fn needs_of(alloc: Global, shape: &Shape) -> Result<Vec<NeedList>, AllocError>
+pub fn needs_of(alloc: Global, shape: &Shape) -> Result<Needs, AllocError>
     requires few { length shape.now.units < 2 ^ 32 }
-    ensures count { IfOk result (λ rows. length rows.items ≡ length shape.now.units) }
-    ensures needs { IfOk result (λ rows. (u v : ℕ) → v < length shape.now.units → need_at rows.items u v ≡ need shape.now u v) }
-    ensures sound { IfOk result (λ rows. All (IsSoundRow (length shape.now.units)) rows.items) }
+    ensures count { IfOk result (λ rows. length rows ≡ length shape.now.units) }
+    ensures needs { IfOk result (λ rows. (u v : ℕ) → v < length shape.now.units → need_at rows u v ≡ need shape.now u v) }
+    ensures sound { IfOk result (λ rows. All (IsSoundRow (length shape.now.units)) rows) }
 {
     let units = shape.units.as_slice();
-    let mut sums = vec![in alloc; 0u128; units.len()]?;
-    let mut marks = vec![in alloc; false; units.len()]?;
-    rows_of(alloc, units, &mut sums, &mut marks)
+    let none = Seen {
+        place: 0,
+        budget: 0,
+    };
+    let mut seen = vec![in alloc; none; units.len()]?;
+    rows_of(alloc, units, &mut seen)
 }
 
-/// The needs of units, by rows of zeros that are zeros again after each.
-fn rows_of(
-    alloc: Global,
-    units: &[Unit],
-    sums: &mut [u128],
-    marks: &mut [bool],
-) -> Result<Vec<NeedList>, AllocError>
-    requires few { length units.now < 2 ^ 32 }
-    requires sums { length sums.old ≡ length units.now }
-    requires marks { length marks.old ≡ length units.now }
-    requires zeros { AreZeros sums.old }
-    requires clear { AreClear marks.old }
-    ensures count { IfOk result (λ rows. length rows.items ≡ length units.now) }
-    ensures needs { IfOk result (λ rows. (u v : ℕ) → v < length units.now → need_at rows.items u v ≡ need_by units.now u v) }
-    ensures sound { IfOk result (λ rows. All (IsSoundRow (length units.now)) rows.items) }
+/// The needs of units. Nothing was seen of any unit before.
+fn rows_of(alloc: Global, units: &[Unit], seen: &mut [Seen]) -> Result<Needs, AllocError>
+    requires count { length seen.old ≡ length units.now }
+    requires none { (v : ℕ) → (seen_at seen.old v).place ≡ 0 }
+    ensures count { IfOk result (λ rows. length rows ≡ length units.now) }
+    ensures needs { IfOk result (λ rows. (u v : ℕ) → v < length units.now → need_at rows u v ≡ need_by units.now u v) }
+    ensures sound { IfOk result (λ rows. All (IsSoundRow (length units.now)) rows) }
 {
-    let mut rows = Vec::new(alloc);
+    let mut ends = Vec::new(alloc);
+    let mut needs = Vec::new(alloc);
     for unit in units {
-        rows.push(row_of(alloc, unit, sums, marks)?)?;
+        sum_up(
+            unit.outputs.as_slice(),
+            unit.budgets.as_slice(),
+            seen,
+            &mut needs,
+        )?;
+        ends.push(needs.len())?;
     }
-    Ok(rows)
-}
-
-/// The needs of a unit, without those of no record. The rows of zeros are zeros again afterwards.
-fn row_of(
-    alloc: Global,
-    unit: &Unit,
-    sums: &mut [u128],
-    marks: &mut [bool],
-) -> Result<NeedList, AllocError>
-    requires few { length sums.old < 2 ^ 32 }
-    requires same { length marks.old ≡ length sums.old }
-    requires zeros { AreZeros sums.old }
-    requires clear { AreClear marks.old }
-    ensures needs { IfOk result (λ row. (v : ℕ) → v < length sums.old → need_in row v ≡ need_of unit.now v) }
-    ensures sound { IfOk result (IsSoundRow (length sums.old)) }
-    ensures zeros { OnOk result (AreZeros sums.new) }
-    ensures clear { OnOk result (AreClear marks.new) }
-{
-    let outputs = unit.outputs.as_slice();
-    let budgets = unit.budgets.as_slice();
-    let touched = sum_up(alloc, outputs, budgets, sums, marks)?;
-    let row = gather(alloc, &touched, sums)?;
-    Ok(row)
-}
-
-/// The sums that are not 0, which become 0.
-fn gather(alloc: Global, touched: &[u32], sums: &mut [u128]) -> Result<NeedList, AllocError>
-    requires { AreTouched sums.old touched.now }
-    ensures needs { IfOk result (λ row. (v : ℕ) → v < length sums.old → need_in row v ≡ slice_index sums.old v) }
-    ensures sound { IfOk result (IsSoundRow (length sums.old)) }
-    ensures zeros { OnOk result (AreZeros sums.new) }
-{
-    let mut row = NeedList::new(alloc);
-    for unit in touched {
-        gather_one(*unit, sums, &mut row)?;
-    }
-    Ok(row)
-}
-
-/// The sum of one unit, which becomes 0, if it isn't 0.
-fn gather_one(unit: u32, sums: &mut [u128], row: &mut NeedList) -> Result<(), AllocError>
-    ensures sums { OnOk result (sums.new ≡ slice_set sums.old unit 0) }
-    ensures row { OnOk result (0 < slice_index sums.old unit → row.new ≡ row.old ++ record { unit = unit; records = slice_index sums.old unit } ∷ []) }
-    ensures none { OnOk result (slice_index sums.old unit ≡ 0 → row.new ≡ row.old) }
-{
-    let place = unit as usize;
-    if place < sums.len() && sums[place] > 0 {
-        let need = Need {
-            unit,
-            records: sums[place],
-        };
-        row.push(need)?;
-        sums[place] = 0;
-    }
-    Ok(())
+    Ok(Needs { ends, needs })
 }
 
 #[cfg(test)]

@@ -1,9 +1,9 @@
 -- One unit more in the greatest needs.
-use Rattle.std.proofs.Common.{◌≡◌, ℕ, zero, suc, ◌+◌, ◌<◌, ◌≤◌, ◌++◌, max, List, [], ◌∷◌, All, length, map, take, drop, drop-cons, add-one, get_or, slice_index, slice_set, slice_get, Some, refl, sym, ap, ◌∙◌, arith, inl, inr}
+use Rattle.std.proofs.Common.{◌≡◌, ℕ, zero, suc, ◌+◌, ◌<◌, ◌≤◌, ◌++◌, max, List, [], ◌∷◌, All, length, map, take, drop, drop-cons, add-one, get_or, slice_index, slice_set, slice_get, unwrap_or, Some, refl, sym, ap, ◌∙◌, arith, inl, inr}
 use Rattle.std.proofs.lemmas.Bool.Decides.{eqb_tells}
 use Rattle.std.proofs.lemmas.Grind.{common_steps}
 use Rattle.std.proofs.lemmas.List.{get_or-set_same, get_or-set_other}
-use Rattle.std.proofs.lemmas.Option.{slice_get_read}
+use Rattle.std.proofs.lemmas.Option.{unwrap_or-slice_get}
 use Rattle.wg_machine.specs.declared.shape.Shape.{Shape}
 use Rattle.wg_machine.specs.declared.shape.Unit.{Unit}
 use Rattle.wg_machine.specs.Need.{need, need_of, greatest}
@@ -23,19 +23,20 @@ some_unit [] k h = absurd (omega arith)
 some_unit (u ∷ units) zero h = (u, refl, refl)
 some_unit (u ∷ units) (suc k) h = some_unit units k (omega arith)
 
-pub row_at : (shape : Shape) (rows items : List (List Need)) (k : ℕ) (x row : List Need)
-    → items ≡ rows → length rows ≡ length shape.units → k < length items → x ≡ get_or items k x → row ≡ x
+pub row_at : (shape : Shape) (rows : List (List Need)) (k : ℕ) (row : List Need)
+    → length rows ≡ length shape.units → k < length rows → row ≡ unwrap_or (slice_get rows k) []
     → ((u v : ℕ) → v < length shape.units → need_at rows u v ≡ need shape u v)
     → IsRowOf shape.units k row
-row_at shape rows items k x row same count h is e needs =
-    let within : k < length rows = omega (arith, ap length same) in
-    let found = some_unit shape.units k (omega arith) in
-    let there : slice_get rows k ≡ Some x = slice_get_read rows (length rows) k x refl within (rw same at is) in
+row_at shape rows k row count h is needs =
+    let found = some_unit shape.units k (omega (arith, count, h)) in
     record {
       unit = found.0;
       is = found.2;
-      needs = λ v below. rw e (rw (there, found.1) at (needs k v below));
+      needs = λ v below. rw is (rw found.1 at (needs k v below));
     }
+
+pub row_sound : (count : ℕ) (rows : List (List Need)) (k : ℕ) (row : List Need) → All (IsSoundRow count) rows → k < length rows → row ≡ unwrap_or (slice_get rows k) [] → IsSoundRow count row
+row_sound count rows k row all h is = rw (is, unwrap_or-slice_get rows k []) (all k [] h)
 
 -- ---- one need more in the numbers
 

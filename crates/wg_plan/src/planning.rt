@@ -77,8 +77,8 @@ fn mosts_of(alloc: Global, shape: &Shape) -> Result<Vec<u32>, AllocError>
 {
     let rows = needs_of(alloc, shape)?;
     let mut mosts = vec![in alloc; 0; rows.len()]?;
-    for row in &rows {
-        raise(&mut mosts, row.as_slice());
+    for place in 0..rows.len() {
+        raise(&mut mosts, rows.row(place));
     }
     Ok(mosts)
 }

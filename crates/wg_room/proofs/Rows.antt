@@ -1,19 +1,16 @@
 -- The needs of a unit, and when each of them is met.
-use Rattle.std.proofs.Common.{◌≡◌, ℕ, Bool, suc, ◌+◌, ◌<◌, ◌≤◌, List, [], ◌∷◌, length, All, slice_index, slice_get, get_or, unwrap_or, refl, ap, sym, arith, inl, inr, IsTrue, ◌↔◌, ◌++◌, take, drop, ◌^◌}
+use Rattle.std.proofs.Common.{◌≡◌, ℕ, Bool, suc, ◌+◌, ◌<◌, ◌≤◌, List, [], ◌∷◌, length, All, slice_index, slice_get, get_or, unwrap_or, refl, sym, arith, inl, inr, IsTrue, ◌↔◌, ◌++◌, take, drop, ◌^◌}
 use Rattle.std.proofs.lemmas.Grind.{common_steps}
 use Rattle.std.proofs.lemmas.Bool.Decides.{eqb_tells}
-use Rattle.std.proofs.lemmas.Option.{slice_get_read}
+use Rattle.std.proofs.lemmas.Option.{unwrap_or-slice_get}
 use Rattle.wg_need.specs.declared.table.Need.{Need}
 use Rattle.wg_need.specs.Rows.{need_in, IsSoundRow}
 use Rattle.wg_room.specs.Counts.{Counts, need_at, HasSlotsLeft, Reserves}
 use Rattle.wg_room.specs.Sound.{IsMet, AreSound}
 
--- the row that is found at a unit
-pub row_found : (rows : List (List Need)) (u : ℕ) (row : List Need) → u < length rows → row ≡ get_or rows u row → unwrap_or (slice_get rows u) [] ≡ row
-row_found rows u row h is = ap (λ found. unwrap_or found []) (slice_get_read rows (length rows) u row refl h is)
-
-pub row_sound : (count : ℕ) (rows : List (List Need)) (u : ℕ) (row : List Need) → All (IsSoundRow count) rows → u < length rows → row ≡ get_or rows u row → IsSoundRow count row
-row_sound count rows u row all h is = let at : IsSoundRow count (get_or rows u row) = all u row h in rw is at
+-- the row of a unit is sound
+row_sound : (count : ℕ) (rows : List (List Need)) (u : ℕ) → All (IsSoundRow count) rows → u < length rows → IsSoundRow count (unwrap_or (slice_get rows u) [])
+row_sound count rows u all h = rw (unwrap_or-slice_get rows u []) (all u [] h)
 
 -- a unit with a need stands in the row
 need_found : (needs : List Need) (v : ℕ) → 0 < need_in needs v → (k : ℕ) × (k < length needs) × ((d : Need) → (get_or needs k d).unit ≡ v)
@@ -49,14 +46,10 @@ pub record IsRow (c : Counts) (u : ℕ) (row : List Need) : Type 0 where
   pub sound : IsSoundRow (length c.bounds) row
   pub needs : (v : ℕ) → need_at c u v ≡ need_in row v
 
-pub row_at : (c : Counts) (u : ℕ) (x row : List Need) → AreSound c → u < length c.bounds → x ≡ get_or c.needs u x → row ≡ x → IsRow c u row
-row_at c u x row sound h is same =
-    let within : u < length c.needs = omega (arith, sound.needs) in
-    rw same
-    (record {
-      sound = row_sound (length c.bounds) c.needs u x sound.rows within is;
-      needs = λ v. ap (λ r. need_in r v) (row_found c.needs u x within is);
-    })
+pub row_at : (c : Counts) (u : ℕ) (row : List Need) → AreSound c → u < length c.bounds → row ≡ unwrap_or (slice_get c.needs u) [] → IsRow c u row
+row_at c u row sound h is =
+    let within : u < length c.needs = omega (arith, h, sound.needs) in
+    rw is (record { sound = row_sound (length c.bounds) c.needs u sound.rows within; needs = λ v. refl })
 
 pub room_exact : (c : Counts) (u : ℕ) (row : List Need) (result : Bool) → IsRow c u row → (IsTrue result ↔ All (IsMet c.bounds c.used c.reserved) row) → IsTrue result ↔ HasSlotsLeft c u
 room_exact c u row result r tells = (

@@ -6,7 +6,7 @@ ghost use Rattle.wg_room.specs.Sound.{IsMet};
 use std::alloc::{AllocError, Global};
 use std::marker::Model;
 use wg_machine::Shape;
-use wg_need::{Need, NeedList, needs_of};
+use wg_need::{Need, Needs, needs_of};
 
 /// The slots of each unit, those that are used and those that are reserved for launches out.
 #[derive(Debug, Drop)]
@@ -14,7 +14,7 @@ pub struct Room {
     bounds: Vec<u32>,
     used: Vec<u32>,
     reserved: Vec<u32>,
-    needs: Vec<NeedList>,
+    needs: Needs,
 }
 
 impl Model for Room {
@@ -23,9 +23,9 @@ impl Model for Room {
 
     ghost Value = { Counts };
 
-    ghost view = { λ r. record { bounds = r.bounds.items; used = r.used.items; reserved = r.reserved.items; needs = r.needs.items } };
+    ghost view = { λ r. record { bounds = r.bounds.items; used = r.used.items; reserved = r.reserved.items; needs = r.needs } };
 
-    ghost invariant = { λ r. AreSound (record { bounds = r.bounds.items; used = r.used.items; reserved = r.reserved.items; needs = r.needs.items }) };
+    ghost invariant = { λ r. AreSound (record { bounds = r.bounds.items; used = r.used.items; reserved = r.reserved.items; needs = r.needs }) };
 }
 
 impl Room {
@@ -53,7 +53,7 @@ impl Room {
         requires { unit < length self.now.bounds }
         ensures { IsTrue result ↔ HasSlotsLeft self.now unit }
     {
-        let needs = self.needs[unit as usize].as_slice();
+        let needs = self.needs.row(unit as usize);
         all_fit(needs, &self.bounds, &self.used, &self.reserved)
     }
 
@@ -63,7 +63,7 @@ impl Room {
         requires room { HasSlotsLeft self.old unit }
         ensures { Reserves self.old self.new unit }
     {
-        reserve_all(&mut self.reserved, self.needs[unit as usize].as_slice());
+        reserve_all(&mut self.reserved, self.needs.row(unit as usize));
     }
 
     /// Gives back what a launch of a unit had reserved.
@@ -72,7 +72,7 @@ impl Room {
         requires reserved { (v : ℕ) → need_at self.old unit v ≤ slice_index self.old.reserved v }
         ensures { Reserves self.new self.old unit }
     {
-        release_all(&mut self.reserved, self.needs[unit as usize].as_slice());
+        release_all(&mut self.reserved, self.needs.row(unit as usize));
     }
 
     /// Counts one more slot as used.

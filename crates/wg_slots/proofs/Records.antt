@@ -1,13 +1,13 @@
 -- Records by slot, from numbers and words.
-use Rattle.std.proofs.Common.{◌≡◌, ◌≢◌, ℕ, zero, suc, ◌+◌, ◌<◌, ◌≤◌, Bool, true, false, List, [], ◌∷◌, ◌++◌, length, Option, Some, None, refl, sym, ap, subst, ◌∙◌, ⊎_elim, inl, inr, arith}
-use Rattle.std.specs.Prelude.{◌⊎◌, ◌==◌, ◌||◌, cond, is_some, IsSome, count_by, filter_map, slice_get, slice_set, slice_index_or}
+use Rattle.std.proofs.Common.{◌≡◌, ◌≢◌, ℕ, zero, suc, ◌+◌, Bool, true, false, List, [], ◌∷◌, length, Option, Some, None, refl, sym, ap, subst, ◌∙◌, arith}
+use Rattle.std.specs.Prelude.{◌⊎◌, ◌==◌, ◌||◌, cond, is_some, IsSome, count_by, filter_map, slice_get, slice_index_or}
 use Rattle.std.specs.Option.{option_map}
-use Rattle.std.specs.List.{list_any, cons_option, sum_by}
+use Rattle.std.specs.List.{cons_option}
 use Rattle.std.proofs.lemmas.List.Sums.{sum_by-cons}
-use Rattle.std.proofs.lemmas.Bool.{eqb-true, eq-eqb}
+use Rattle.std.proofs.lemmas.Bool.{eq-eqb}
 use Rattle.wg_machine.specs.declared.launch.Record.{Record}
 use Rattle.wg_slots.specs.SlotsOf.{waits_in}
-use Rattle.wg_slots.specs.Kept.{records_by, AreApart}
+use Rattle.wg_slots.specs.Kept.{records_by}
 
 -- ---- a value that is there
 

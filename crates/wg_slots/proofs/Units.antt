@@ -1,19 +1,19 @@
 -- What a call does to one unit, as its records are seen.
 use Rattle.std.proofs.Common.{◌≡◌, ◌≢◌, ℕ, zero, suc, ◌+◌, ◌<◌, ◌≤◌, Bool, true, false, List, [], ◌∷◌, ◌++◌, length, Option, Some, None, refl, sym, ap, subst, ◌∙◌, ⊎_elim, inl, inr, arith}
 use Rattle.std.specs.Prelude.{◌⊎◌, ◌==◌, ◌||◌, cond, is_some, IsSome, count_by, filter_map, slice_get, slice_set, slice_index_or}
-use Rattle.std.specs.List.{list_any, cons_option, sum_by}
-use Rattle.std.proofs.lemmas.List.{length-append, get_or-set_other}
+use Rattle.std.specs.List.{cons_option}
+use Rattle.std.proofs.lemmas.List.{get_or-set_other}
 use Rattle.std.proofs.lemmas.List.Elements.{filter_map-append}
 use Rattle.std.proofs.lemmas.List.Folds.{list_any-append}
 use Rattle.std.proofs.lemmas.List.Sums.{sum_by-cons}
 use Rattle.std.proofs.lemmas.Bool.{eqb-true, eq-eqb, cases_lt}
 use Rattle.std.proofs.lemmas.Bool.Decides.{eqb_tells}
 use Rattle.wg_machine.specs.declared.launch.Record.{Record}
-use Rattle.wg_slots.specs.SlotsOf.{SlotsOf, record_at, waits_in, waiting_of, used_of, free_of, slot_words, Puts, HoldsFirst, Releases, Writes}
-use Rattle.wg_slots.specs.Kept.{Kept, IsSound, AreApart, number_at, numbers_used, start_of, end_of, shown, part, KeepsNumber, DropsNumber}
+use Rattle.wg_slots.specs.SlotsOf.{SlotsOf, record_at, waits_in, waiting_of, free_of, slot_words, Puts, HoldsFirst, Releases, Writes}
+use Rattle.wg_slots.specs.Kept.{Kept, IsSound, AreApart, number_at, numbers_used, start_of, shown, part, KeepsNumber, DropsNumber}
 use Rattle.wg_slots.specs.Layout.{IsWritten}
 use Rattle.wg_slots.proofs.Blocks.{part_same}
-use Rattle.wg_slots.proofs.Records.{some_of, there_is, same_some, not_none, with_words, record_is, words_same, used_same, or_left, or_right, filter_same, filter_length, filter_get, waits_at, waits_apart}
+use Rattle.wg_slots.proofs.Records.{some_of, there_is, not_none, with_words, record_is, words_same, used_same, or_left, or_right, filter_same, filter_length, filter_get, waits_apart}
 use Rattle.wg_slots.proofs.Rows.{step, words_fit, with_queue}
 
 -- ---- a unit's records

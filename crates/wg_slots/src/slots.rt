@@ -215,16 +215,4 @@ impl Slots {
 }
 
 #[cfg(test)]
-mod tests {
-    use super::*;
-    use std::test::Fail;
-
-    /// A plan of seven units with two slots each and one with a single slot, of one word each.
-    #[test]
-    fn the_block_has_the_words_of_all_slots(rt: HostRuntime) -> Result<(), Fail> {
-        let slots = Slots::new(rt.alloc(), &[2, 2, 2, 2, 2, 2, 2, 1], &[1; 8])?;
-        assert_eq!(rt; slots.block(), 15);
-        assert_eq!(rt; [slots.free(6), slots.free(7), slots.waiting(6)], [2, 1, 0]);
-        Ok(())
-    }
-}
+mod tests;

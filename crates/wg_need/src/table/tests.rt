@@ -49,7 +49,7 @@ fn shape(alloc: Global, budgets: &[u32], rows: &[OutputRow]) -> Result<Shape, Al
 /// The budgets and outputs of a unit, and the units to which it may send records, with how many.
 type NeedRow = (&'static [u32], &'static [OutputRow], &'static [(u32, u128)]);
 
-const ROWS: [NeedRow; 4] = [
+const ROWS: [NeedRow; 5] = [
     (&[5], &[(0, &[Some(1), Some(2), None])], &[(1, 5), (2, 5)]),
     (&[4], &[(0, &[Some(1)]), (0, &[Some(1)])], &[(1, 4)]),
     (
@@ -58,6 +58,16 @@ const ROWS: [NeedRow; 4] = [
         &[(2, 4_294_967_296)],
     ),
     (&[3, 7], &[(0, &[None]), (2, &[Some(1)])], &[]),
+    (
+        &[0, 5, 2],
+        &[
+            (2, &[Some(1)]),
+            (0, &[Some(2)]),
+            (1, &[Some(2), Some(1)]),
+            (2, &[Some(1)]),
+        ],
+        &[(2, 5), (1, 7)],
+    ),
 ];
 
 #[test]
@@ -66,8 +76,8 @@ fn a_budget_counts_once_for_each_unit_that_it_reaches(rt: HostRuntime) -> Result
         let table = needs_of(rt.alloc(), &shape(rt.alloc(), budgets, outputs)?)?;
         assert_eq!(rt; table.len(), 3);
         let mut have = Vec::new(rt.alloc());
-        for row in &table {
-            for need in row.as_slice() {
+        for row in 0..table.len() {
+            for need in table.row(row) {
                 have.push((need.unit, need.records))?;
             }
         }

@@ -1,6 +1,9 @@
-use Rattle.std.proofs.Common.{arith}
-use Rattle.wg_need.proofs.Bounds.{need_fits}
+use Rattle.std.proofs.Common.{length}
+use Rattle.wg_need.proofs.Blocks.{row_part}
 use Rattle.wg_need.proofs.table.row_of.Goals as goal
 
-pub sum_up-requires-clause-fits : goal.sum_up-requires-clause-fits
-sum_up-requires-clause-fits c = λ v. need_fits _ _ v (λ i. omega (arith, c.type_inv.budgets i)) (omega arith)
+pub part_of-requires-clause-order : goal.part_of-requires-clause-order
+part_of-requires-clause-order c = rw c.begin_of.ensures (row_part 0 c.args.ends.now (length c.args.needs.now) c.args.row c.requires.ends c.requires.row).order
+
+pub part_of-requires-clause-within : goal.part_of-requires-clause-within
+part_of-requires-clause-within c = (row_part 0 c.args.ends.now (length c.args.needs.now) c.args.row c.requires.ends c.requires.row).within

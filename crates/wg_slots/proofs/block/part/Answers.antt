@@ -1,4 +1,4 @@
-use Rattle.std.proofs.Common.{◌≡◌, ◌∙◌, ◌+◌, ◌-◌, ℕ, take, drop, ap, arith}
+use Rattle.std.proofs.Common.{◌∙◌, ℕ, take, drop, ap, arith}
 use Rattle.wg_slots.proofs.Blocks.{part_is}
 use Rattle.wg_slots.proofs.block.part.Goals as goal
 

@@ -1,4 +1,4 @@
-use Rattle.std.proofs.Common.{◌≡◌, ◌∙◌, ◌++◌, [], ◌∷◌, ◌+◌, List, refl, sym, ap, subst}
+use Rattle.std.proofs.Common.{◌∙◌, ◌++◌, [], ◌∷◌, ◌+◌, List, refl, sym, ap, subst}
 use Rattle.std.specs.Prelude.{slice_index}
 use Rattle.wg_slots.specs.Kept.{Kept}
 use Rattle.wg_slots.proofs.Rows.{UnitsSoFar, one_unit_more}

@@ -8,4 +8,4 @@ returns c =
     let within = rw (← c.self.view_is) at c.requires in
     let tells = rw (c.deref.ensures.value, c.deref-2.ensures.value, c.deref-3.ensures.value) at c.all_fit.ensures in
     subst (λ (w : Counts). IsTrue c.all_fit.result ↔ HasSlotsLeft w c.args.unit) c.self.view_is
-    (room_exact _ c.args.unit c.as_slice-needs.result.now c.all_fit.result (row_at _ c.args.unit c.index.result.now c.as_slice-needs.result.now c.self.invariant within c.index.ensures c.as_slice-needs.ensures) tells)
+    (room_exact _ c.args.unit c.row-needs.result.now c.all_fit.result (row_at _ c.args.unit c.row-needs.result.now c.self.invariant within c.row-needs.ensures) tells)

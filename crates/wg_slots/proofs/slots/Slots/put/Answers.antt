@@ -1,12 +1,10 @@
-use Rattle.std.proofs.Common.{◌≡◌, ◌∙◌, ◌<◌, ℕ, List, Option, Some, false, length, map, take, drop, ◌++◌, [], ◌∷◌, ◌+◌, ◌≤◌, refl, sym, ap, subst, arith}
-use Rattle.std.specs.Prelude.{IsSome, slice_get, slice_set}
-use Rattle.std.specs.List.{sum_by}
-use Rattle.wg_slots.specs.SlotsOf.{SlotsOf, slots_at, record_at, waits_in, waiting_of, free_of, row_words, HoldsFirst, Releases, Puts, Writes}
-use Rattle.wg_slots.specs.Kept.{Kept, IsSound, KeepsNumber, DropsNumber, shown, part, start_of, end_of, number_at}
+use Rattle.std.proofs.Common.{◌≡◌, ◌∙◌, ◌<◌, ℕ, List, Some, length, map, ◌++◌, [], ◌∷◌, ◌+◌, sym, ap, subst, arith}
+use Rattle.std.specs.Prelude.{slice_get, slice_set}
+use Rattle.wg_slots.specs.SlotsOf.{SlotsOf, slots_at, free_of, Puts}
+use Rattle.wg_slots.specs.Kept.{Kept, IsSound, KeepsNumber, shown, start_of, end_of}
 use Rattle.wg_slots.specs.Layout.{IsLaid, IsWritten}
-use Rattle.wg_slots.proofs.Records.{with_words, waits_at, same_some}
-use Rattle.wg_slots.proofs.Rows.{unit_there, unit_shown, laid_set, laid_sum, with_queue, both_at, others_stay, units_apart, set_same, lies_at, slot_ends, all_are_free, length_shown, whole_again}
-use Rattle.wg_slots.proofs.Units.{holds, sound_hold, waiting_length, waiting_get, record_there, number_there, free_is, free_some, sound_few, seen_at, words_in, puts, put_kept, sound_put, releases, sound_release, writes}
+use Rattle.wg_slots.proofs.Rows.{unit_there, unit_shown, laid_set, both_at, others_stay, units_apart, lies_at, slot_ends, whole_again}
+use Rattle.wg_slots.proofs.Units.{free_some, sound_few, puts, put_kept, sound_put}
 use Rattle.wg_slots.proofs.slots.Slots.put.Goals as goal
 
 pub put-slot-requires-clause-free : goal.put-slot-requires-clause-free

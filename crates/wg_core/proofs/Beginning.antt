@@ -14,7 +14,7 @@ use Rattle.wg_machine.specs.LaunchMeaning.{Arrives}
 use Rattle.wg_machine.specs.State.{born, kept}
 use Rattle.wg_standing.specs.Core.{CoreView, core_begun}
 use Rattle.wg_core.specs.Inside.{IsSoundCore, is_in_slot, view_of}
-use Rattle.wg_standing.specs.Standing.{Rises, by_unit}
+use Rattle.wg_standing.specs.Standing.{Rises, by_unit, is_entry_record, opened_of}
 use Rattle.wg_standing.specs.Laws.{BeginningsPlace}
 use Rattle.wg_core.specs.Store.{AllThread, begun_store, thread_born}
 use Rattle.wg_core.proofs.Threads.{born_is}
@@ -39,12 +39,23 @@ nothing_waits : (handed v n : ℕ) → by_unit handed v n [] ≡ replicate n []
 nothing_waits handed v zero = refl
 nothing_waits handed v (suc n) = ap (λ (rest : List (List Live)). [] ∷ rest) (nothing_waits handed (v + 1) n)
 
-pub begun_view : (shape : Shape) (width : ℕ) (limits : Limits) (script : List Sent) → AllThread shape → view_of (begun_store shape width script) limits [] (length script) [] 0 0 0 None ≡ core_begun shape width limits script []
-begun_view shape width limits script threads =
-    ap (λ (ws : List (List Live)). (let c : CoreView = record (core_begun shape width limits script []) { bag = thread_born 0 script ++ []; waits = ws; entries = thread_born 0 script } in c)) (nothing_waits (length script) 0 (length shape.units))
-    ∙ ap (λ (b : List Live). (let c : CoreView = record (core_begun shape width limits script []) { bag = b; entries = thread_born 0 script } in c)) (no_more (thread_born 0 script))
-    ∙ ap (λ (es : List Live). (let c : CoreView = record (core_begun shape width limits script []) { bag = es; entries = es } in c)) (sym (born_is shape threads 0 script))
+pub begun_view : BeginningsPlace → (shape : Shape) (width : ℕ) (limits : Limits) (script : List Sent) → AllThread shape → Each (Arrives shape) script → view_of (begun_store shape width script) limits [] (length script) [] 0 0 0 None ≡ core_begun shape width limits script []
+begun_view law shape width limits script threads arrive =
+    let placed = law shape width limits script [] arrive in
+    let waiting = thread_born 0 script in
+    let bag = flat_map kept (born shape 0 script) in
+    ap (λ (ws : List (List Live)). (let c : CoreView = record (core_begun shape width limits script []) { bag = waiting ++ []; waits = ws; entries = waiting; held = slots (waiting ++ []); taken = entries (waiting ++ []) } in c)) (nothing_waits (length script) 0 (length shape.units))
+    ∙ ap (λ (b : List Live). (let c : CoreView = record (core_begun shape width limits script []) { bag = b; entries = waiting; held = slots b; taken = entries b } in c)) (no_more waiting)
+    ∙ ap (λ (es : List Live). (let c : CoreView = record (core_begun shape width limits script []) { bag = es; entries = es; held = slots es; taken = entries es } in c)) (sym (born_is shape threads 0 script))
+    ∙ ap (λ (held : List (List Live)). (let c : CoreView = record (core_begun shape width limits script []) { held = held; taken = entries bag } in c)) (sym placed.held)
+    ∙ ap (λ (taken : List Live). (let c : CoreView = record (core_begun shape width limits script []) { taken = taken } in c)) (sym placed.taken)
   where
+    slots : List Live → List (List Live)
+    slots bag = by_unit (length script) 0 (length shape.units) (opened_of bag bag)
+
+    entries : List Live → List Live
+    entries bag = filter (is_entry_record (length script)) (opened_of bag bag)
+
     no_more : (xs : List Live) → xs ++ [] ≡ xs
     no_more [] = refl
     no_more (x ∷ xs) = ap (λ (rest : List Live). x ∷ rest) (no_more xs)
@@ -68,4 +79,4 @@ begun_sound law shape width limits script places good threads wide arrive few la
       spent = tt;
       spare = omega arith;
     } in
-    subst (λ (c : CoreView). IsSoundCore (begun_store shape width script) c [] places) (sym (begun_view shape width limits script threads)) sound
+    subst (λ (c : CoreView). IsSoundCore (begun_store shape width script) c [] places) (sym (begun_view law shape width limits script threads arrive)) sound

@@ -19,7 +19,7 @@ use Rattle.wg_standing.specs.Core.{CoreView}
 use Rattle.wg_core.specs.Inside.{IsSoundCore, is_in_slot, view_of}
 use Rattle.wg_standing.specs.Moves.{with_out}
 use Rattle.wg_standing.specs.Outs.{launch_now, unopened}
-use Rattle.wg_standing.specs.Standing.{EachKnown, IsFull, Rises, by_unit, in_slot, is_entry_record, origin}
+use Rattle.wg_standing.specs.Standing.{EachKnown, IsFull, Rises, by_unit, in_slot, is_entry_record, opened_of, origin}
 use Rattle.wg_standing.specs.Laws.{LaunchesLeaveEachList, NeverBlocked, OpeningsLeave, OpeningsPlace, UnopenedIsWhole}
 use Rattle.wg_core.specs.Store.{Chooses, IsBare, IsBestBelow, StoreView, StoreHasRoom, NoneBelow, StoreOpens, record_at, without}
 use Rattle.wg_core.specs.Running.{EachOfThread, all_names, names_of, put, record_out, thread_running, with_runs}
@@ -334,7 +334,12 @@ opened_view laws k l r places place x s e op =
     ∙ same place left (same_bag laws.whole k r places place x s e)
   where
     view : List Live → List (List Live) → List Live → List Pending → CoreView
-    view bag ws es os = record (seen k r) { bag = bag; waits = ws; entries = es; outs = os; tickets = r.tickets + 1 }
+    view bag ws es os =
+        let opened = opened_of (unopened os bag) bag in
+        record (seen k r) { bag = bag; waits = ws; entries = es; held = by_unit k.handed 0 (length k.shape.units) opened; taken = filter (is_entry_record k.handed) opened; outs = os; spare = length (r.runs ++ thread_running r.tickets x ∷ []); tickets = r.tickets + 1 }
+
+    counted : (c : CoreView) → (n : ℕ) → c.spare ≡ n → c ≡ record c { spare = n }
+    counted c n e = ap (λ (m : ℕ). (let d : CoreView = record c { spare = m } in d)) e
 
     named : all_names (r.runs ++ thread_running r.tickets x ∷ []) ≡ all_names r.runs ++ names_of (thread_running r.tickets x) ∷ []
     named = names_append r.runs (thread_running r.tickets x ∷ [])
@@ -347,6 +352,7 @@ opened_view laws k l r places place x s e op =
         ∙ ap (λ (ws : List (List Live)). view (seen k r).bag ws k.entries ns) (sym (by_unit_left laws.lists k.handed 0 (length k.shape.units) (x.number ∷ []) origin k.waiting))
         ∙ ap (λ (es : List Live). view (seen k r).bag (map (left_after (x.number ∷ []) origin None) (by_unit k.handed 0 (length k.shape.units) k.waiting)) es ns) left.entries
         ∙ ap (view (seen k r).bag (map (left_after (x.number ∷ []) origin None) (by_unit k.handed 0 (length k.shape.units) k.waiting)) (left_after (x.number ∷ []) origin None k.entries)) named
+        ∙ counted (view (seen k r).bag (map (left_after (x.number ∷ []) origin None) (by_unit k.handed 0 (length k.shape.units) k.waiting)) (left_after (x.number ∷ []) origin None k.entries) (all_names r.runs ++ names_of (thread_running r.tickets x) ∷ [])) (length r.runs + 1) (length_push r.runs (thread_running r.tickets x))
     same FirstEntry left bag =
         let ns = all_names (r.runs ++ thread_running r.tickets x ∷ []) in
         ap (λ (b : List Live). view b (by_unit k.handed 0 (length k.shape.units) k.waiting) (drop 1 k.entries) ns) bag
@@ -354,6 +360,7 @@ opened_view laws k l r places place x s e op =
         ∙ ap (λ (ws : List (List Live)). view (seen k r).bag ws (drop 1 k.entries) ns) (sym (by_unit_left laws.lists k.handed 0 (length k.shape.units) (x.number ∷ []) origin k.waiting))
         ∙ ap (λ (es : List Live). view (seen k r).bag (map (left_after (x.number ∷ []) origin None) (by_unit k.handed 0 (length k.shape.units) k.waiting)) es ns) left.entries
         ∙ ap (view (seen k r).bag (map (left_after (x.number ∷ []) origin None) (by_unit k.handed 0 (length k.shape.units) k.waiting)) (left_after (x.number ∷ []) origin None k.entries)) named
+        ∙ counted (view (seen k r).bag (map (left_after (x.number ∷ []) origin None) (by_unit k.handed 0 (length k.shape.units) k.waiting)) (left_after (x.number ∷ []) origin None k.entries) (all_names r.runs ++ names_of (thread_running r.tickets x) ∷ [])) (length r.runs + 1) (length_push r.runs (thread_running r.tickets x))
 
 each_more : (runs : List Running) (o : Running) → EachOfThread runs → o ≡ thread_running o.ticket (record_out o) → EachOfThread (runs ++ o ∷ [])
 each_more [] o all e = (e, tt)

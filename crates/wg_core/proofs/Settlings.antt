@@ -1,5 +1,5 @@
 -- A core settles: what its store leaves is what the step of the launch leaves.
-use Rattle.std.proofs.Common.{◌≡◌, ℕ, zero, suc, ◌+◌, ◌^◌, ◌<◌, ◌≤◌, Bool, true, false, List, [], ◌∷◌, ◌++◌, length, map, refl, ap, sym, ◌∙◌, subst, arith, None, Some, Option, take, drop, remove, max, append_assoc}
+use Rattle.std.proofs.Common.{◌≡◌, ℕ, zero, suc, ◌+◌, ◌-◌, length-append, ◌^◌, ◌<◌, ◌≤◌, Bool, true, false, List, [], ◌∷◌, ◌++◌, length, map, refl, ap, sym, ◌∙◌, subst, arith, None, Some, Option, take, drop, remove, max, append_assoc}
 use Rattle.std.specs.Prelude.{if◌then◌else◌, ◌==◌, ◌&&◌, filter, slice_get, slice_index, nat_le, count_by, IfSome}
 use Rattle.std.specs.List.{flat_map}
 use Rattle.std.proofs.lemmas.Bool.Decides.{nat_tests}
@@ -24,7 +24,7 @@ use Rattle.wg_standing.specs.Core.{CoreView}
 use Rattle.wg_core.specs.Inside.{IsSoundCore, is_in_slot, view_of}
 use Rattle.wg_standing.specs.Moves.{all_more, freed, is_still, settled_of, slot_bytes, used_more, with_words}
 use Rattle.wg_standing.specs.Outs.{AllAllowed, IsAllowed, after_one, launch_now, unopened}
-use Rattle.wg_standing.specs.Standing.{IsPlaced, Rises, by_unit, origin, reserved}
+use Rattle.wg_standing.specs.Standing.{IsPlaced, Rises, by_unit, is_entry_record, opened_of, origin, reserved}
 use Rattle.wg_standing.specs.Laws.{OutsFit, SettlingsFree, SettlingsLeave, SettlingsPlace, TakenStay, UnsharedStay}
 use Rattle.wg_core.specs.declared.running.Running.{Running}
 use Rattle.wg_core.specs.Running.{EachOfThread, all_names, names_of, record_out, thread_running, with_runs}
@@ -263,9 +263,21 @@ settled_view law k l r places before o later outcome s was_out none unshared op 
     ∙ ap (λ (new : Option (List ℕ)). after o.launch (left_after o.inputs o.at new (seen k r).bag ++ real) (all_more k.handed 0 real (map (with_words o.inputs new) (by_unit k.handed 0 n k.waiting))) (with_words o.inputs new k.entries) (used_more k.handed 0 o.launch.unit (freed (seen k r) (names_of o) (all_names before ++ all_names later)) real k.used) (all_names before ++ all_names later) []) (sym unshared)
     ∙ ap (λ (l : Launch). after l (left_after o.inputs o.at outcome.shared (seen k r).bag ++ real) (all_more k.handed 0 real (map (with_words o.inputs outcome.shared) (by_unit k.handed 0 n k.waiting))) (with_words o.inputs outcome.shared k.entries) (used_more k.handed 0 o.launch.unit (freed (seen k r) (names_of o) (all_names before ++ all_names later)) real k.used) (all_names before ++ all_names later) []) (sym t.now)
     ∙ ap (after (launch_now k.shape (seen k r).bag (names_of o)) (left_after o.inputs o.at outcome.shared (seen k r).bag ++ real) (all_more k.handed 0 real (map (with_words o.inputs outcome.shared) (by_unit k.handed 0 n k.waiting))) (with_words o.inputs outcome.shared k.entries) (used_more k.handed 0 o.launch.unit (freed (seen k r) (names_of o) (all_names before ++ all_names later)) real k.used) (all_names before ++ all_names later)) (sym none)
+    ∙ counted (after (launch_now k.shape (seen k r).bag (names_of o)) (left_after o.inputs o.at outcome.shared (seen k r).bag ++ real) (all_more k.handed 0 real (map (with_words o.inputs outcome.shared) (by_unit k.handed 0 n k.waiting))) (with_words o.inputs outcome.shared k.entries) (used_more k.handed 0 o.launch.unit (freed (seen k r) (names_of o) (all_names before ++ all_names later)) real k.used) (all_names before ++ all_names later) outcome.buffers) (length r.runs - 1) fewer
   where
+    counted : (c : CoreView) → (n : ℕ) → c.spare ≡ n → c ≡ record c { spare = n }
+    counted c n e = ap (λ (m : ℕ). (let d : CoreView = record c { spare = m } in d)) e
+
+    fewer : length (before ++ later) ≡ length r.runs - 1
+    fewer =
+        let a = ap (λ (os : List Running). length os) was_out in
+        let b = length-append before (o ∷ later) in
+        let c = length-append before later in
+        omega (arith, a, b, c)
+
     after : Launch → List Live → List (List Live) → List Live → List ℕ → List Pending → Buffers → CoreView
     after launch bag ws es us os b =
+        let opened = opened_of (unopened os bag) bag in
         record (seen k r) {
           journal = r.journal ++ entry_of launch o.at r.next outcome ∷ [];
           next = r.next + length outcome.sent;
@@ -273,8 +285,11 @@ settled_view law k l r places before o later outcome s was_out none unshared op 
           bag = bag;
           waits = ws;
           entries = es;
+          held = by_unit k.handed 0 (length k.shape.units) opened;
+          taken = filter (is_entry_record k.handed) opened;
           used = us;
           outs = os;
+          spare = length (before ++ later);
           denied = r.denied + outcome.denied;
           peak = max r.peak (slot_bytes k.shape 0 us);
         }

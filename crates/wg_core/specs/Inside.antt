@@ -10,13 +10,15 @@ use Rattle.wg_core.specs.declared.running.Running.{Running}
 use Rattle.wg_core.specs.Running.{EachOfThread, all_names, with_runs}
 use Rattle.wg_standing.specs.Core.{CoreView}
 use Rattle.wg_standing.specs.Outs.{unopened}
-use Rattle.wg_standing.specs.Standing.{IsPlaced, by_unit, reserved}
+use Rattle.wg_standing.specs.Standing.{IsPlaced, by_unit, is_entry_record, opened_of, reserved}
 use Rattle.wg_core.specs.Store.{StoreView, AllThread}
 use Rattle.wg_standing.specs.Idle.{SomeIsOut}
 
 -- what contracts see, of a store and the other fields
 abbrev pub view_of : StoreView → Limits → List Entry → ℕ → List Running → ℕ → ℕ → ℕ → Option ℕ → CoreView
 view_of k limits journal next runs tickets denied peak stopped =
+    let bag = with_runs runs (k.entries ++ k.waiting) in
+    let opened = opened_of (unopened (all_names runs) bag) bag in
     record {
       shape = k.shape;
       width = k.width;
@@ -25,14 +27,18 @@ view_of k limits journal next runs tickets denied peak stopped =
       journal = journal;
       next = next;
       buffers = [];
-      bag = with_runs runs (k.entries ++ k.waiting);
+      bag = bag;
       waits = by_unit k.handed 0 (length k.shape.units) k.waiting;
       entries = k.entries;
+      held = by_unit k.handed 0 (length k.shape.units) opened;
+      taken = filter (is_entry_record k.handed) opened;
       used = k.used;
       outs = all_names runs;
+      spare = length runs;
       tickets = tickets;
       denied = denied;
       peak = peak;
+      kept = 0;
       stopped = stopped;
     }
 

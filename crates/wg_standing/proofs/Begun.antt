@@ -12,14 +12,16 @@ use Rattle.wg_machine.specs.LaunchMeaning.{Meaning, Arrives}
 use Rattle.wg_machine.specs.State.{kept, born, start as start_of}
 use Rattle.wg_machine.specs.Bytes.{live_bytes}
 use Rattle.wg_machine.specs.Units.{stride_at}
-use Rattle.wg_standing.specs.Standing.{Rises, IsPlaced, StandsFor, by_unit, counts, in_slot, is_entry_record}
+use Rattle.wg_standing.specs.Standing.{Rises, IsPlaced, StandsFor, by_unit, counts, in_slot, is_entry_record, opened_of}
 use Rattle.wg_standing.specs.Core.{core_begun}
 use Rattle.wg_standing.specs.Moves.{slot_bytes}
 use Rattle.wg_words.specs.Each.{Each}
+use Rattle.wg_standing.proofs.Lefts.{all_left}
 use Rattle.wg_standing.proofs.Rising.{rises_kept, rises_born}
 use Rattle.wg_standing.proofs.Slots.{slots_kept}
 use Rattle.wg_standing.proofs.Grids.{distinct_born}
 use Rattle.wg_standing.proofs.Counting.{count_cons}
+use Rattle.wg_standing.proofs.Held.{all_among, none_opened, nothing_there}
 use Rattle.wg_standing.proofs.Bytes.{full_born, known_born, words_born, bytes_are}
 
 and_false : (a b : Bool) → b ≡ false → (a && b) ≡ false
@@ -83,9 +85,13 @@ begun_placed shape width limits script start arrive =
     let n = length shape.units in
     let bag = flat_map kept (born shape 0 script) in
     let rises = begun_rises shape script in
+    let nothing : opened_of bag bag ≡ [] = none_opened bag bag (all_among bag) in
     record {
       waits = nothing_waits (length script) 0 n bag rises;
       entries = sym (all_entries (length script) 0 bag rises);
+      held = nothing_there (length script) 0 n ∙ ap (by_unit (length script) 0 n) (sym nothing);
+      taken = ap (filter (is_entry_record (length script))) (sym nothing);
+      spare = refl;
       allowed = tt;
       apart = tt;
       tickets_differ = tt;
@@ -115,6 +121,9 @@ begun_stands made shape width limits script start arrive =
       handed = refl;
       bag = refl;
       placed = placed;
+      left = all_left bag;
+      ticketed = record { settled = []; one_each = refl; below = tt; none_out = tt; all = λ t h none. absurd (omega arith) };
+      kept = omega arith;
       next = refl;
       buffers = refl;
       denied = refl;

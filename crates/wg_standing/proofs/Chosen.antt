@@ -33,7 +33,7 @@ slots_at handed u (x ∷ xs) = choice (in_slot handed u x) refl (slots_at handed
     choice true e a = ((Decides-eqb x.unit u).0 (both_first (x.unit == u) (nat_le handed x.number) e), a)
     choice false e a = a
 
-prefix_at : (u : ℕ) (xs : List Live) → AllAt u (take_while (λ (x : Live). x.unit == u) xs)
+pub prefix_at : (u : ℕ) (xs : List Live) → AllAt u (take_while (λ (x : Live). x.unit == u) xs)
 prefix_at u [] = tt
 prefix_at u (x ∷ xs) = choice (x.unit == u) refl (prefix_at u xs)
   where
@@ -46,28 +46,34 @@ prefix_at u (x ∷ xs) = choice (x.unit == u) refl (prefix_at u xs)
 self_eq : (n : ℕ) → (n == n) ≡ true
 self_eq n = grind (arith, nat_tests)
 
-prefix_some : (xs : List Live) → 0 < length xs → 0 < length (take_while (λ (x : Live). x.unit == first_unit xs) xs)
+pub prefix_some : (xs : List Live) → 0 < length xs → 0 < length (take_while (λ (x : Live). x.unit == first_unit xs) xs)
 prefix_some [] h = absurd (omega arith)
 prefix_some (x ∷ xs) h =
     let k : 1 + prefix_len (λ (y : Live). y.unit == x.unit) xs ≡ suc (prefix_len (λ (y : Live). y.unit == x.unit) xs) = omega arith in
     subst (λ (b : Bool). 0 < length (take (if b then 1 + prefix_len (λ (y : Live). y.unit == x.unit) xs else 0) (x ∷ xs))) (sym (self_eq x.unit)) (subst (λ (m : ℕ). 0 < length (take m (x ∷ xs))) (sym k) (omega arith))
 
-pub choice_fine : (core : CoreView) (o : Pending) → IsGoodShape core.shape → IsPlaced core core.bag → IsChoice core o → CanOpen core o
-choice_fine core o good p (from_slots u pick) =
+length_by_unit : (handed v n : ℕ) (xs : List Live) → length (by_unit handed v n xs) ≡ n
+length_by_unit handed v zero xs = refl
+length_by_unit handed v (suc n) xs = ap suc (length_by_unit handed (v + 1) n xs)
+
+-- what waits at a unit is what is in its slots of what is not opened
+pub waiting_is : (core : CoreView) (u : ℕ) → IsPlaced core core.bag → u < length core.waits → waiting_at core u ≡ filter (in_slot core.handed u) (unopened core.outs core.bag)
+waiting_is core u p h =
     let n = length core.shape.units in
     let ready = unopened core.outs core.bag in
-    let within : u < n = let a = pick.within in let b = ap (λ (ws : List (List Live)). length ws) p.waits in let c = length_by_unit core.handed 0 n ready in omega (arith, a, b, c) in
+    let within : u < n = let b = ap (λ (ws : List (List Live)). length ws) p.waits in let c = length_by_unit core.handed 0 n ready in omega (arith, h, b, c) in
     let z : 0 + u ≡ u = omega arith in
-    let waits : waiting_at core u ≡ filter (in_slot core.handed u) ready = ap (λ (ws : List (List Live)). unwrap_or (slice_get ws u) []) p.waits ∙ by_unit_at core.handed 0 n u ready within ∙ ap (λ (v : ℕ). filter (in_slot core.handed v) ready) z in
+    ap (λ (ws : List (List Live)). unwrap_or (slice_get ws u) []) p.waits ∙ by_unit_at core.handed 0 n u ready within ∙ ap (λ (v : ℕ). filter (in_slot core.handed v) ready) z
+
+pub choice_fine : (core : CoreView) (o : Pending) → IsGoodShape core.shape → IsPlaced core core.bag → IsChoice core o → CanOpen core o
+choice_fine core o good p (from_slots u pick) =
+    let ready = unopened core.outs core.bag in
+    let waits = waiting_is core u p pick.within in
     record {
       allowed = allowed_from core.tickets core.shape u 0 core.next (waiting_at core u) ready (subst (λ (xs : List Live). IsSub xs ready) (sym waits) (sub_filter (in_slot core.handed u) ready)) (rises_unopened 0 core.next core.outs core.bag p.rises) (full_unopened core.shape core.outs core.bag p.full) (subst (AllAt u) (sym waits) (slots_at core.handed u ready)) pick.waits (takes_some core.shape good u);
       room = pick.room;
       ticket = refl;
     }
-  where
-    length_by_unit : (handed v n : ℕ) (xs : List Live) → length (by_unit handed v n xs) ≡ n
-    length_by_unit handed v zero xs = refl
-    length_by_unit handed v (suc n) xs = ap suc (length_by_unit handed (v + 1) n xs)
 choice_fine core o good p (from_entries unpicked enters) =
     let ready = unopened core.outs core.bag in
     let u = first_unit core.entries in

@@ -8,6 +8,8 @@ pub mod Commute
 pub mod Counting
 pub mod Fitting
 pub mod Grids
+pub mod Held
+pub mod Lefts
 pub mod Lists
 pub mod Names
 pub mod Opening
@@ -20,4 +22,5 @@ pub mod Shapes
 pub mod Slots
 pub mod Stands
 pub mod Still
+pub mod Tickets
 pub mod Words

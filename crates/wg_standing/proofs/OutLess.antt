@@ -1,6 +1,6 @@
 -- A core that settles a launch stands for what it stood for.
 use Rattle.std.proofs.Common.{◌≡◌, ℕ, ◌+◌, ◌≤◌, Bool, true, false, cond, List, [], ◌∷◌, ◌++◌, length, map, refl, ap, sym, ◌∙◌, subst, arith, None, Some, Option}
-use Rattle.std.specs.Prelude.{filter, nat_le, IfSome, slice_index, count_by, ◌==◌, ◌&&◌, max}
+use Rattle.std.specs.Prelude.{filter, ◌-◌, nat_le, IfSome, slice_index, count_by, ◌==◌, ◌&&◌, max}
 use Rattle.std.specs.List.{flat_map}
 use Rattle.std.proofs.lemmas.List.Sums.{sum_by_push, sum_by-cons}
 use Rattle.std.proofs.lemmas.List.{length_push}
@@ -19,8 +19,9 @@ use Rattle.wg_machine.specs.Run.{IsRun}
 use Rattle.wg_machine.specs.Bytes.{live_bytes, peak as peak_of}
 use Rattle.wg_machine.specs.Need.{need}
 use Rattle.wg_standing.specs.Outs.{AllAllowed, AllApart, IsAllowed, after_one, launch_now, unopened}
-use Rattle.wg_standing.specs.Standing.{Rises, EachDistinct, IsPlaced, StandsFor, TicketsDiffer, TicketsBelow, IsNotOut, reserved, by_unit, counts, in_slot, is_entry_record, IsSpent, EachHasWords, EachKnown}
+use Rattle.wg_standing.specs.Standing.{Rises, EachDistinct, IsPlaced, StandsFor, TicketsDiffer, TicketsBelow, IsNotOut, IsTicketed, opened_of, reserved, by_unit, counts, in_slot, is_entry_record, IsSpent, EachHasWords, EachKnown}
 use Rattle.wg_standing.specs.Core.{CoreView}
+use Rattle.wg_standing.specs.Left.{IsLeftOf}
 use Rattle.wg_standing.specs.Moves.{all_more, freed, is_still, settled_of, slot_bytes, used_more, with_words}
 use Rattle.wg_words.specs.Each.{Each}
 use Rattle.wg_standing.proofs.Names.{named_of}
@@ -41,7 +42,7 @@ run_more shape made turns s (j ∷ js) (q ∷ ps) t e p run step = (run.0, run_m
 run_more shape made turns s [] (q ∷ ps) t e p run step = absurd run
 run_more shape made turns s (j ∷ js) [] t e p run step = absurd run
 
-not_out_without : (t : ℕ) (xs : List Pending) (o : Pending) (ys : List Pending) → IsNotOut t (xs ++ o ∷ ys) → IsNotOut t (xs ++ ys)
+pub not_out_without : (t : ℕ) (xs : List Pending) (o : Pending) (ys : List Pending) → IsNotOut t (xs ++ o ∷ ys) → IsNotOut t (xs ++ ys)
 not_out_without t [] o ys a = a.1
 not_out_without t (x ∷ xs) o ys a = (a.0, not_out_without t xs o ys a.1)
 
@@ -49,7 +50,7 @@ differ_without : (xs : List Pending) (o : Pending) (ys : List Pending) → Ticke
 differ_without [] o ys d = d.1
 differ_without (x ∷ xs) o ys d = (not_out_without x.ticket xs o ys d.0, differ_without xs o ys d.1)
 
-below_without : (n : ℕ) (xs : List Pending) (o : Pending) (ys : List Pending) → TicketsBelow n (xs ++ o ∷ ys) → TicketsBelow n (xs ++ ys)
+pub below_without : (n : ℕ) (xs : List Pending) (o : Pending) (ys : List Pending) → TicketsBelow n (xs ++ o ∷ ys) → TicketsBelow n (xs ++ ys)
 below_without n [] o ys b = b.1
 below_without n (x ∷ xs) o ys b = (b.0, below_without n xs o ys b.1)
 
@@ -111,7 +112,9 @@ pub record KeepsNeeds (shape : Shape) (unit : ℕ) (sent : List Sent) : Type 0 w
 
 -- a core with these lists, journal and launches out
 abbrev stepped : CoreView → List Entry → List Live → List (List Live) → List ℕ → List Pending → ℕ → CoreView
-stepped core journal bag waits used outs next = record core { journal = journal; next = next; bag = bag; waits = waits; used = used; outs = outs }
+stepped core journal bag waits used outs next =
+    let opened = opened_of (unopened outs bag) bag in
+    record core { journal = journal; next = next; bag = bag; waits = waits; held = by_unit core.handed 0 (length core.shape.units) opened; taken = filter (is_entry_record core.handed) opened; used = used; outs = outs; spare = core.spare - 1 }
 
 -- the records after the group of a launch out has run, with no new words
 step_placed : (core : CoreView) (bag : List Live) (before : List Pending) (o : Pending) (later : List Pending) (sent : List Sent) (entry : Entry) → core.outs ≡ before ++ o ∷ later → KeepsNeeds core.shape o.unit sent → EachDistinct (flat_map kept (born core.shape core.next sent)) → IsPlaced core bag → (let fresh = flat_map kept (born core.shape core.next sent) in IsPlaced (stepped core (core.journal ++ entry ∷ []) (after_one o bag ++ fresh) (all_more core.handed 0 fresh core.waits) (used_more core.handed 0 o.unit (freed core o (before ++ later)) fresh core.used) (before ++ later) (core.next + length sent)) (after_one o bag ++ fresh))
@@ -147,6 +150,9 @@ step_placed core bag before o later sent entry was_out needs newly s =
       launches = let l = s.launches in omega (arith, longer, fewer, outs, l);
       waits = ap (all_more core.handed 0 fresh) waits ∙ by_unit_append core.handed 0 n (unopened rest less) fresh ∙ ap (by_unit core.handed 0 n) (sym more);
       entries = s.entries ∙ ap (filter (is_entry_record core.handed)) ready ∙ sym (ap (filter (is_entry_record core.handed)) more ∙ those_append (λ u m. nat_le (m + 1) core.handed) (unopened rest less) fresh ∙ ap (λ (b : List Live). filter (is_entry_record core.handed) (unopened rest less) ++ b) (no_entries core.handed core.next end fresh s.handed rise) ∙ append_nil (filter (is_entry_record core.handed) (unopened rest less)));
+      held = refl;
+      taken = refl;
+      spare = let k = s.spare in omega (arith, fewer, outs, k);
       allowed = stay;
       apart = apart.1;
       tickets_differ = differ_without before o later (subst TicketsDiffer was_out s.tickets_differ);
@@ -172,14 +178,24 @@ step_placed core bag before o later sent entry was_out needs newly s =
           );
     }
 
+-- a core and a bag, where the records of these numbers have new words
+abbrev reworded : CoreView → List Live → List ℕ → Option (List ℕ) → CoreView
+reworded core bag nums new =
+    let worded = with_words nums new bag in
+    let opened = opened_of (unopened core.outs worded) worded in
+    record core { waits = map (with_words nums new) core.waits; entries = with_words nums new core.entries; held = by_unit core.handed 0 (length core.shape.units) opened; taken = filter (is_entry_record core.handed) opened }
+
 -- the records of a core, where those that a launch out takes have new words
-reworded_placed : (core : CoreView) (bag : List Live) (nums : List ℕ) (new : Option (List ℕ)) → EachHasWords core.shape (with_words nums new bag) → IsPlaced core bag → (let ready : CoreView = record core { waits = map (with_words nums new) core.waits; entries = with_words nums new core.entries } in IsPlaced ready (with_words nums new bag))
+reworded_placed : (core : CoreView) (bag : List Live) (nums : List ℕ) (new : Option (List ℕ)) → EachHasWords core.shape (with_words nums new bag) → IsPlaced core bag → IsPlaced (reworded core bag nums new) (with_words nums new bag)
 reworded_placed core bag nums new words s =
     let n = length core.shape.units in
     let ready = worded_unopened nums new core.outs bag in
     record {
       waits = ap (map (with_words nums new)) s.waits ∙ sym (worded_by_unit core.handed 0 n nums new (unopened core.outs bag)) ∙ ap (by_unit core.handed 0 n) (sym ready);
       entries = ap (with_words nums new) s.entries ∙ sym (worded_those (λ u m. nat_le (m + 1) core.handed) nums new (unopened core.outs bag)) ∙ ap (filter (is_entry_record core.handed)) (sym ready);
+      held = refl;
+      taken = refl;
+      spare = s.spare;
       allowed = allowed_worded core.shape nums new bag core.outs s.allowed;
       apart = s.apart;
       tickets_differ = s.tickets_differ;
@@ -204,7 +220,7 @@ settled_placed core before o later outcome was_out needs new newly s =
     let entry = entry_of (launch_now core.shape bag o) o.at core.next outcome in
     let mine = named_of core.shape bag o (one_of core.shape bag before o later (subst (AllAllowed core.shape bag) was_out s.allowed)) in
     let words = words_worded core.shape (shared_at core.shape o.unit) o.unit o.at o.inputs outcome.shared bag new mine.ready s.words in
-    let ready : CoreView = record core { waits = map (with_words o.inputs outcome.shared) core.waits; entries = with_words o.inputs outcome.shared core.entries } in
+    let ready = reworded core bag o.inputs outcome.shared in
     let placed = step_placed ready (with_words o.inputs outcome.shared bag) before o later outcome.sent entry was_out needs newly (reworded_placed core bag o.inputs outcome.shared words s) in
     let gone : freed ready o rest ≡ freed core o rest = count_same (λ n. nat_le core.handed n && opposite (is_still ready.waits rest n)) (λ n. nat_le core.handed n && opposite (is_still core.waits rest n)) o.inputs (λ n. ap (λ (b : Bool). nat_le core.handed n && opposite b) (still_worded o.inputs outcome.shared core.waits rest n)) in
     let less = left_worded o.inputs o.at outcome.shared bag in
@@ -217,6 +233,9 @@ settled_placed core before o later outcome was_out needs new newly s =
     record {
       waits = p.waits;
       entries = p.entries;
+      held = refl;
+      taken = refl;
+      spare = p.spare;
       allowed = p.allowed;
       apart = p.apart;
       tickets_differ = p.tickets_differ;
@@ -233,8 +252,8 @@ settled_placed core before o later outcome was_out needs new newly s =
       room = p.room;
     }
 
-pub settled_stands : (made : Meaning) (script : List Sent) (start : Buffers) (core : CoreView) (before : List Pending) (o : Pending) (later : List Pending) (outcome : Outcome) → core.stopped ≡ None → core.outs ≡ before ++ o ∷ later → made (launch_now core.shape core.bag o) core.buffers core.limits.turns ≡ Some outcome → KeepsNeeds core.shape o.unit outcome.sent → HasNewWords (shared_at core.shape o.unit) (words_at core.shape o.unit) outcome.shared → EachDistinct (flat_map kept (born core.shape core.next outcome.sent)) → StandsFor made script start core → StandsFor made script start (settled_of core before o later outcome)
-settled_stands made script start core before o later outcome running was_out runs needs new newly s =
+pub settled_stands : (made : Meaning) (script : List Sent) (start : Buffers) (core : CoreView) (before : List Pending) (o : Pending) (later : List Pending) (outcome : Outcome) → core.stopped ≡ None → core.outs ≡ before ++ o ∷ later → made (launch_now core.shape core.bag o) core.buffers core.limits.turns ≡ Some outcome → KeepsNeeds core.shape o.unit outcome.sent → HasNewWords (shared_at core.shape o.unit) (words_at core.shape o.unit) outcome.shared → EachDistinct (flat_map kept (born core.shape core.next outcome.sent)) → StandsFor made script start core → IsLeftOf (flat_map kept (born core.shape 0 script)) (settled_of core before o later outcome).entries → IsTicketed (settled_of core before o later outcome) → StandsFor made script start (settled_of core before o later outcome)
+settled_stands made script start core before o later outcome running was_out runs needs new newly s left ticketed =
     let shape = core.shape in
     let sent = outcome.sent in
     let launch = launch_now shape core.bag o in
@@ -262,6 +281,9 @@ settled_stands made script start core before o later outcome running was_out run
       handed = s.handed;
       bag = refl;
       placed = p;
+      left = left;
+      ticketed = ticketed;
+      kept = let k = s.kept in let longer = length_push core.journal entry in omega (arith, k, longer);
       next = refl;
       buffers = refl;
       denied = let d = sum_by_push (λ (q : Passed). q.outcome.denied) s.trail passed in let e = s.denied in omega (arith, d, e);

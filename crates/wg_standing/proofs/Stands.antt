@@ -1,6 +1,9 @@
 -- What a core stands for, as it opens, settles and stops, and where it is idle.
-use Rattle.std.proofs.Common.{◌≡◌, ℕ, zero, suc, ◌+◌, ◌<◌, List, [], ◌∷◌, ◌++◌, length, refl, ap, sym, ◌∙◌, subst, arith, None, Some, unwrap_or}
-use Rattle.std.specs.Prelude.{Contains, slice_get, filter}
+use Rattle.std.proofs.Common.{◌≡◌, ℕ, zero, suc, ◌+◌, ◌<◌, List, [], ◌∷◌, ◌++◌, length, refl, ap, sym, ◌∙◌, subst, arith, Option, None, Some, unwrap_or}
+use Rattle.std.specs.List.{flat_map}
+use Rattle.wg_machine.specs.Run.{EachState}
+use Rattle.wg_machine.specs.Step.{Passed}
+use Rattle.std.specs.Prelude.{IfSome, Contains, slice_get, filter}
 use Rattle.wg_words.specs.Each.{Each}
 use Rattle.wg_machine.specs.declared.launch.Live.{Live}
 use Rattle.wg_machine.specs.declared.launch.Record.{Record}
@@ -9,19 +12,21 @@ use Rattle.wg_machine.specs.Buffers.{Buffers}
 use Rattle.wg_machine.specs.Bytes.{live_bytes}
 use Rattle.wg_machine.specs.GoodShape.{IsGoodShape}
 use Rattle.wg_machine.specs.LaunchMeaning.{KeepsLaws, Meaning, Outcome}
-use Rattle.wg_machine.specs.State.{State}
+use Rattle.wg_machine.specs.State.{State, born, kept}
 use Rattle.wg_standing.specs.declared.pending.Pending.{Pending}
 use Rattle.wg_standing.specs.Choice.{IsChoice}
 use Rattle.wg_standing.specs.Core.{CoreView}
 use Rattle.wg_standing.specs.Idle.{IsIdle}
-use Rattle.wg_standing.specs.Moves.{settled_of, slot_bytes, with_out}
+use Rattle.wg_standing.specs.Moves.{settled_of, slot_bytes, with_kept, with_out}
 use Rattle.wg_standing.specs.Outs.{AllAllowed, launch_now, unopened}
-use Rattle.wg_standing.specs.Standing.{EachKnown, IsPlaced, StandsFor, by_unit, counts, is_entry_record}
+use Rattle.wg_standing.specs.Standing.{EachKnown, IsPlaced, IsSpent, StandsFor, by_unit, counts, is_entry_record}
 use Rattle.wg_standing.proofs.Blocks.{idle_empty}
 use Rattle.wg_standing.proofs.Bytes.{bytes_are}
 use Rattle.wg_standing.proofs.Chosen.{choice_fine}
 use Rattle.wg_standing.proofs.Fitting.{out_fits}
 use Rattle.wg_standing.proofs.Grids.{distinct_born}
+use Rattle.wg_standing.proofs.Lefts.{left_opened, left_reworded}
+use Rattle.wg_standing.proofs.Tickets.{opened_ticketed, settled_ticketed}
 use Rattle.wg_standing.proofs.OutLess.{settled_placed, settled_stands}
 use Rattle.wg_standing.proofs.OutMore.{opened_placed, opened_stands}
 use Rattle.wg_standing.proofs.Settling.{NeedsAreKept, keeps_needs}
@@ -29,12 +34,12 @@ use Rattle.wg_standing.proofs.Settling.{NeedsAreKept, keeps_needs}
 pub opening_places : (core : CoreView) (o : Pending) → IsGoodShape core.shape → length core.journal + length core.outs < core.limits.launches → IsPlaced core core.bag → IsChoice core o → IsPlaced (with_out core o) core.bag
 opening_places core o good few p choice =
     let f = choice_fine core o good p choice in
-    opened_placed core core.bag o f.ticket few f.room p f.allowed
+    opened_placed core o f.ticket few f.room p f.allowed
 
 pub opening_stands : (made : Meaning) (script : List Sent) (start : Buffers) (core : CoreView) (o : Pending) → IsGoodShape core.shape → core.stopped ≡ None → length core.journal + length core.outs < core.limits.launches → StandsFor made script start core → IsChoice core o → StandsFor made script start (with_out core o)
 opening_stands made script start core o good running few s choice =
     let f = choice_fine core o good s.placed choice in
-    opened_stands made script start core o running f.ticket few f.room s f.allowed
+    opened_stands made script start core o running f.ticket few f.room s f.allowed (left_opened core o (flat_map kept (born core.shape 0 script)) good s.placed choice s.left) (opened_ticketed core o f.ticket s.ticketed)
 
 pub settling_places : NeedsAreKept → (core : CoreView) (before : List Pending) (o : Pending) (later : List Pending) (outcome : Outcome) → IsGoodShape core.shape → core.outs ≡ before ++ o ∷ later → KeepsLaws core.shape (launch_now core.shape core.bag o) core.buffers core.limits.turns outcome → IsPlaced core core.bag → IsPlaced (settled_of core before o later outcome) (settled_of core before o later outcome).bag
 settling_places law core before o later outcome good was_out laws p =
@@ -46,7 +51,7 @@ pub settling_stands : NeedsAreKept → (made : Meaning) (script : List Sent) (st
 settling_stands law made script start core before o later outcome good running was_out runs laws h =
     let fits = out_fits core before o later good was_out h.placed in
     let few = keeps_needs law core.shape (launch_now core.shape core.bag o) core.buffers core.limits.turns outcome fits laws in
-    settled_stands made script start core before o later outcome running was_out runs few laws.shared (distinct_born core.shape core.next outcome.sent) h
+    settled_stands made script start core before o later outcome running was_out runs few laws.shared (distinct_born core.shape core.next outcome.sent) h (left_reworded o.inputs outcome.shared (flat_map kept (born core.shape 0 script)) core.entries h.left) (settled_ticketed core before o later outcome was_out h.placed.tickets_differ h.placed.tickets_below h.ticketed)
 
 middle : (xs : List Pending) (o : Pending) (ys : List Pending) → Contains (xs ++ o ∷ ys) o
 middle [] o ys = (0, omega arith, refl)
@@ -60,7 +65,10 @@ stopping_stands made script start core before o later was_out spends h =
       run = h.run;
       handed = h.handed;
       bag = h.bag;
-      placed = record { waits = h.placed.waits; entries = h.placed.entries; allowed = h.placed.allowed; apart = h.placed.apart; tickets_differ = h.placed.tickets_differ; tickets_below = h.placed.tickets_below; tickets = h.placed.tickets; launches = h.placed.launches; rises = h.placed.rises; handed = h.placed.handed; distinct = h.placed.distinct; full = h.placed.full; known = h.placed.known; words = h.placed.words; used = h.placed.used; room = h.placed.room };
+      placed = record { waits = h.placed.waits; entries = h.placed.entries; held = h.placed.held; taken = h.placed.taken; allowed = h.placed.allowed; apart = h.placed.apart; tickets_differ = h.placed.tickets_differ; tickets_below = h.placed.tickets_below; tickets = h.placed.tickets; launches = h.placed.launches; spare = h.placed.spare; rises = h.placed.rises; handed = h.placed.handed; distinct = h.placed.distinct; full = h.placed.full; known = h.placed.known; words = h.placed.words; used = h.placed.used; room = h.placed.room };
+      left = h.left;
+      ticketed = record { settled = h.ticketed.settled; one_each = h.ticketed.one_each; below = h.ticketed.below; none_out = h.ticketed.none_out; all = h.ticketed.all };
+      kept = h.kept;
       next = h.next;
       buffers = h.buffers;
       denied = h.denied;
@@ -104,3 +112,36 @@ pub bytes_of_slots : (core : CoreView) (s : State) → core.bag ≡ s.bag → Is
 bytes_of_slots core s same p =
     bytes_are core.shape core.handed s (subst (EachKnown (length core.shape.units)) same p.known)
     ∙ ap (slot_bytes core.shape 0) (ap (counts core.handed 0 (length core.shape.units)) (sym same) ∙ sym p.used)
+
+pub keeping_places : (core : CoreView) → IsPlaced core core.bag → IsPlaced (with_kept core) core.bag
+keeping_places core p =
+    record { waits = p.waits; entries = p.entries; held = p.held; taken = p.taken; allowed = p.allowed; apart = p.apart; tickets_differ = p.tickets_differ; tickets_below = p.tickets_below; tickets = p.tickets; launches = p.launches; spare = p.spare; rises = p.rises; handed = p.handed; distinct = p.distinct; full = p.full; known = p.known; words = p.words; used = p.used; room = p.room }
+
+same_spent : (made : Meaning) (core : CoreView) (t : Option ℕ) → IfSome t (IsSpent made core) → IfSome t (IsSpent made (with_kept core))
+same_spent made core None s = tt
+same_spent made core (Some ticket) s = record { pending = s.pending; is_out = s.is_out; named = s.named; spent = s.spent }
+
+pub keeping_stands : (made : Meaning) (script : List Sent) (start : Buffers) (core : CoreView) → core.kept < length core.journal → StandsFor made script start core → StandsFor made script start (with_kept core)
+keeping_stands made script start core few h =
+    record {
+      state = h.state;
+      trail = h.trail;
+      run = h.run;
+      handed = h.handed;
+      bag = h.bag;
+      placed = keeping_places core h.placed;
+      left = h.left;
+      ticketed = record { settled = h.ticketed.settled; one_each = h.ticketed.one_each; below = h.ticketed.below; none_out = h.ticketed.none_out; all = h.ticketed.all };
+      kept = omega arith;
+      next = h.next;
+      buffers = h.buffers;
+      denied = h.denied;
+      peak = h.peak;
+      slots = h.slots;
+      spent = same_spent made core core.stopped h.spent;
+    }
+
+-- a fact of each state that follows from another
+pub states_weaker : (P Q : State → Type 0) → ((s : State) → P s → Q s) → (s : State) (trail : List Passed) → EachState P s trail → EachState Q s trail
+states_weaker P Q f s [] e = f s e
+states_weaker P Q f s (p ∷ trail) e = (f s e.0, states_weaker P Q f p.after trail e.1)

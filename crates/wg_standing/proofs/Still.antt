@@ -165,7 +165,7 @@ among_left nums at n (x ∷ bag) e =
       | inr k ↦ or_right (x.number == n) (has_number (numbers bag) n) (among_left nums at n bag k)
     ]
 
-among_unopened : (outs : List Pending) (n : ℕ) (bag : List Live) → has_number (numbers (unopened outs bag)) n ≡ true → has_number (numbers bag) n ≡ true
+pub among_unopened : (outs : List Pending) (n : ℕ) (bag : List Live) → has_number (numbers (unopened outs bag)) n ≡ true → has_number (numbers bag) n ≡ true
 among_unopened [] n bag e = e
 among_unopened (o ∷ outs) n bag e = among_left o.inputs o.at n bag (among_unopened outs n (after_one o bag) e)
 

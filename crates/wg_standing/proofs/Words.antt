@@ -24,19 +24,19 @@ use Rattle.wg_standing.proofs.Rising.{numbers}
 abbrev pub worded : Bool → Option (List ℕ) → Live → Live
 worded b new x = if b then record x { words = unwrap_or new x.words } else x
 
-same_number : (b : Bool) (new : Option (List ℕ)) (x : Live) → (worded b new x).number ≡ x.number
+pub same_number : (b : Bool) (new : Option (List ℕ)) (x : Live) → (worded b new x).number ≡ x.number
 same_number true new x = refl
 same_number false new x = refl
 
-same_unit : (b : Bool) (new : Option (List ℕ)) (x : Live) → (worded b new x).unit ≡ x.unit
+pub same_unit : (b : Bool) (new : Option (List ℕ)) (x : Live) → (worded b new x).unit ≡ x.unit
 same_unit true new x = refl
 same_unit false new x = refl
 
-same_grid : (b : Bool) (new : Option (List ℕ)) (x : Live) → (worded b new x).grid ≡ x.grid
+pub same_grid : (b : Bool) (new : Option (List ℕ)) (x : Live) → (worded b new x).grid ≡ x.grid
 same_grid true new x = refl
 same_grid false new x = refl
 
-same_groups : (b : Bool) (new : Option (List ℕ)) (x : Live) → (worded b new x).groups ≡ x.groups
+pub same_groups : (b : Bool) (new : Option (List ℕ)) (x : Live) → (worded b new x).groups ≡ x.groups
 same_groups true new x = refl
 same_groups false new x = refl
 

@@ -29,15 +29,23 @@ pub record CoreView : Type 0 where
   pub waits : List (List Live)
   -- what is left of the entry list, with the groups that are not opened
   pub entries : List Live
+  -- by unit: the records in slots that are held, since all their groups are opened, with the groups that have not run
+  pub held : List (List Live)
+  -- the entry records that launches out took from the list, with the groups that have not run
+  pub taken : List Live
   -- by unit: how many slots are in use
   pub used : List ℕ
   pub outs : List Pending
+  -- the spare places of the journal that launches out have
+  pub spare : ℕ
   -- how many launches were opened; the next ticket
   pub tickets : ℕ
   -- the requests that were granted none
   pub denied : ℕ
   -- the greatest number of live bytes so far
   pub peak : ℕ
+  -- how many settlings kept a guess
+  pub kept : ℕ
   -- the ticket of the launch that spent its turns
   pub stopped : Option ℕ
 
@@ -55,10 +63,14 @@ core_begun shape width limits script start_buffers =
       bag = flat_map kept (born shape 0 script);
       waits = replicate (length shape.units) [];
       entries = flat_map kept (born shape 0 script);
+      held = replicate (length shape.units) [];
+      taken = [];
       used = replicate (length shape.units) 0;
       outs = [];
+      spare = 0;
       tickets = 0;
       denied = 0;
       peak = 0;
+      kept = 0;
       stopped = None;
     }

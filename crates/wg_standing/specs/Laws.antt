@@ -11,16 +11,17 @@ use Rattle.wg_machine.specs.Bytes.{live_bytes, plan_bytes}
 use Rattle.wg_machine.specs.GoodShape.{IsGoodShape}
 use Rattle.wg_machine.specs.LaunchMeaning.{Arrives, FitsShape, KeepsLaws, Meaning, Outcome}
 use Rattle.wg_machine.specs.Need.{need}
-use Rattle.wg_machine.specs.Run.{IsComplete}
-use Rattle.wg_machine.specs.State.{State, born, kept}
+use Rattle.wg_machine.specs.Run.{EachState, IsComplete}
+use Rattle.wg_machine.specs.State.{State, born, kept, start as start_of}
 use Rattle.wg_machine.specs.Step.{has_number, left_after}
 use Rattle.wg_machine.specs.Units.{shared_at}
 use Rattle.wg_standing.specs.declared.pending.Pending.{Pending}
 use Rattle.wg_standing.specs.Choice.{CanEnter, CanOpen, IsChoice, NoPick}
 use Rattle.wg_standing.specs.Core.{CoreView, core_begun}
 use Rattle.wg_standing.specs.Idle.{IsIdle}
-use Rattle.wg_standing.specs.Moves.{freed, is_still, settled_of, slot_bytes, with_out, with_words}
+use Rattle.wg_standing.specs.Moves.{freed, is_still, settled_of, slot_bytes, with_kept, with_out, with_words}
 use Rattle.wg_standing.specs.Outs.{after_one, launch_now, unopened}
+use Rattle.wg_standing.specs.Places.{HasOnePlace}
 use Rattle.wg_standing.specs.Standing.{IsPlaced, IsWhole, StandsFor}
 
 abbrev pub BeginningsPlace : Type 0
@@ -79,6 +80,10 @@ abbrev pub CompleteIsIdle : Type 0
 CompleteIsIdle = (made : Meaning) (script : List Sent) (start_buffers : Buffers) (core : CoreView)
     (s : StandsFor made script start_buffers core) → IsComplete s.state → IsIdle core
 
+-- waiting, held, left and taken records are the bag, each once
+abbrev pub RecordsHaveOnePlace : Type 0
+RecordsHaveOnePlace = (core : CoreView) (n : ℕ) → IsPlaced core core.bag → HasOnePlace core n
+
 abbrev pub BytesAreOfSlots : Type 0
 BytesAreOfSlots = (core : CoreView) (s : State) → core.bag ≡ s.bag → IsPlaced core core.bag → live_bytes core.shape core.handed s ≡ slot_bytes core.shape 0 core.used
 
@@ -116,6 +121,17 @@ UnsharedStay = (core : CoreView) (before : List Pending) (o : Pending) (later : 
     → ((u : ℕ) → shared_at core.shape u ≡ false) → core.outs ≡ before ++ o ∷ later
     → KeepsLaws core.shape (launch_now core.shape core.bag o) core.buffers core.limits.turns outcome → IsPlaced core core.bag
     → Each (λ (p : Pending). launch_now core.shape (settled_of core before o later outcome).bag p ≡ launch_now core.shape core.bag p) (before ++ later)
+
+abbrev pub LiveBytesFitPlan : Type 0
+LiveBytesFitPlan = (made : Meaning) (script : List Sent) (start_buffers : Buffers) (core : CoreView)
+    (s : StandsFor made script start_buffers core) → EachState (λ (t : State). live_bytes core.shape core.handed t ≤ plan_bytes core.shape core.width) (start_of core.shape script start_buffers) s.trail
+
+abbrev pub KeepingsStand : Type 0
+KeepingsStand = (made : Meaning) (script : List Sent) (start_buffers : Buffers) (core : CoreView)
+    → core.kept < length core.journal → StandsFor made script start_buffers core → StandsFor made script start_buffers (with_kept core)
+
+abbrev pub KeepingsPlace : Type 0
+KeepingsPlace = (core : CoreView) → IsPlaced core core.bag → IsPlaced (with_kept core) core.bag
 
 abbrev pub PeaksFitPlan : Type 0
 PeaksFitPlan = (made : Meaning) (script : List Sent) (start_buffers : Buffers) (core : CoreView)

@@ -2,6 +2,8 @@ pub mod Choice
 pub mod Core
 pub mod Idle
 pub mod Laws
+pub mod Left
 pub mod Moves
 pub mod Outs
+pub mod Places
 pub mod Standing

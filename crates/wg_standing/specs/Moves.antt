@@ -9,16 +9,20 @@ use Rattle.wg_machine.specs.Step.{entry_of, has_number, left_after}
 use Rattle.wg_machine.specs.Units.{stride_at}
 use Rattle.wg_standing.specs.declared.pending.Pending.{Pending}
 use Rattle.wg_standing.specs.Core.{CoreView}
-use Rattle.wg_standing.specs.Outs.{launch_now}
-use Rattle.wg_standing.specs.Standing.{in_slot}
+use Rattle.wg_standing.specs.Outs.{launch_now, unopened}
+use Rattle.wg_standing.specs.Standing.{by_unit, in_slot, is_entry_record, opened_of}
 
 -- the core with one more launch out
 abbrev pub with_out : CoreView → Pending → CoreView
 with_out core o =
+    let opened = opened_of (unopened (core.outs ++ o ∷ []) core.bag) core.bag in
     record core {
       waits = map (left_after o.inputs o.at None) core.waits;
       entries = left_after o.inputs o.at None core.entries;
+      held = by_unit core.handed 0 (length core.shape.units) opened;
+      taken = filter (is_entry_record core.handed) opened;
       outs = core.outs ++ o ∷ [];
+      spare = core.spare + 1;
       tickets = core.tickets + 1;
     }
 
@@ -57,18 +61,27 @@ abbrev pub settled_of : CoreView → List Pending → Pending → List Pending �
 settled_of core before o later outcome =
     let fresh = flat_map kept (born core.shape core.next outcome.sent) in
     let used = used_more core.handed 0 o.unit (freed core o (before ++ later)) fresh core.used in
+    let bag = left_after o.inputs o.at outcome.shared core.bag ++ fresh in
+    let opened = opened_of (unopened (before ++ later) bag) bag in
     record core {
       journal = core.journal ++ entry_of (launch_now core.shape core.bag o) o.at core.next outcome ∷ [];
       next = core.next + length outcome.sent;
       buffers = outcome.buffers;
-      bag = left_after o.inputs o.at outcome.shared core.bag ++ fresh;
+      bag = bag;
       waits = all_more core.handed 0 fresh (map (with_words o.inputs outcome.shared) core.waits);
       entries = with_words o.inputs outcome.shared core.entries;
+      held = by_unit core.handed 0 (length core.shape.units) opened;
+      taken = filter (is_entry_record core.handed) opened;
       used = used;
       outs = before ++ later;
+      spare = core.spare - 1;
       denied = core.denied + outcome.denied;
       peak = max core.peak (slot_bytes core.shape 0 used);
     }
+
+-- the core with one more guess kept
+abbrev pub with_kept : CoreView → CoreView
+with_kept core = record core { kept = core.kept + 1 }
 
 -- one launch that was out has made its step, by what its launch of now made
 pub record TakesStep (made : Meaning) (old new : CoreView) (ticket : ℕ) : Type 0 where

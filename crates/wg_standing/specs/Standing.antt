@@ -1,5 +1,6 @@
 -- What a core stands for: a run of the machine from a script. This project's own.
-use Rattle.std.specs.Prelude.{◌≡◌, ◌≢◌, ⊤, ℕ, zero, suc, ◌+◌, ◌*◌, ◌<◌, ◌≤◌, ◌==◌, ◌&&◌, Bool, true, false, nat_le, Contains, List, [], ◌∷◌, length, filter, slice_index, None, IfSome, sum_by, count_by}
+use Rattle.std.specs.Prelude.{◌≡◌, ◌≢◌, ⊤, ℕ, zero, suc, ◌+◌, ◌*◌, ◌<◌, ◌≤◌, ◌==◌, ◌&&◌, Bool, true, false, nat_le, Contains, if◌then◌else◌, List, [], ◌∷◌, length, filter, map, slice_index, None, IfSome, sum_by, count_by}
+use Rattle.std.specs.List.{flat_map}
 use Rattle.wg_words.specs.Each.{Each}
 use Rattle.wg_machine.specs.declared.shape.Kind.{Kind}
 use Rattle.wg_machine.specs.declared.shape.Kind.TheVariants.{Thread, Coalescing, Grid, GridField}
@@ -12,11 +13,12 @@ use Rattle.wg_machine.specs.Grids.{grid_of}
 use Rattle.wg_machine.specs.LaunchMeaning.{Meaning}
 use Rattle.wg_machine.specs.Need.{need, most}
 use Rattle.wg_machine.specs.Run.{IsRun, EachState, denied_of, times}
-use Rattle.wg_machine.specs.State.{State, start as start_of}
-use Rattle.wg_machine.specs.Step.{Passed}
+use Rattle.wg_machine.specs.State.{State, born, kept, start as start_of}
+use Rattle.wg_machine.specs.Step.{Passed, has_number}
 use Rattle.wg_machine.specs.Units.{kind_at, words_at}
 use Rattle.wg_standing.specs.declared.pending.Pending.{Pending}
 use Rattle.wg_standing.specs.Core.{CoreView}
+use Rattle.wg_standing.specs.Left.{IsLeftOf}
 use Rattle.wg_standing.specs.Outs.{AllAllowed, AllApart, launch_now, unopened}
 
 -- a record in a slot of the unit: no entry record
@@ -30,6 +32,14 @@ is_entry_record handed x = nat_le (x.number + 1) handed
 abbrev pub by_unit : ℕ → ℕ → ℕ → List Live → List (List Live)
 by_unit handed v zero bag = []
 by_unit handed v (suc n) bag = filter (in_slot handed v) bag ∷ by_unit handed (v + 1) n bag
+
+-- everything of a record is opened: it is not among those of which something is not
+abbrev pub is_opened : List Live → Live → Bool
+is_opened ready x = if has_number (map (λ (y : Live). y.number) ready) x.number then false else true
+
+-- the records of a bag of which everything is opened
+abbrev pub opened_of : List Live → List Live → List Live
+opened_of ready bag = filter (is_opened ready) bag
 
 -- by unit, from v on, how many records are in slots
 abbrev pub counts : ℕ → ℕ → ℕ → List Live → List ℕ
@@ -103,6 +113,9 @@ pub record IsPlaced (core : CoreView) (bag : List Live) : Type 0 where
   -- what waits in slots and what is left of the entries is the bag but for what the launches out took
   pub waits : core.waits ≡ by_unit core.handed 0 (length core.shape.units) (unopened core.outs bag)
   pub entries : core.entries ≡ filter (is_entry_record core.handed) (unopened core.outs bag)
+  -- what is held in slots and what was taken from the entries are the other records of the bag
+  pub held : core.held ≡ by_unit core.handed 0 (length core.shape.units) (opened_of (unopened core.outs bag) bag)
+  pub taken : core.taken ≡ filter (is_entry_record core.handed) (opened_of (unopened core.outs bag) bag)
   -- the bag allows the launch of now of each launch out, and no two take one group of one record
   pub allowed : AllAllowed core.shape bag core.outs
   pub apart : AllApart core.outs
@@ -111,6 +124,8 @@ pub record IsPlaced (core : CoreView) (bag : List Live) : Type 0 where
   pub tickets_below : TicketsBelow core.tickets core.outs
   pub tickets : core.tickets ≡ length core.journal + length core.outs
   pub launches : length core.journal + length core.outs ≤ core.limits.launches
+  -- the journal has a spare place for each launch out
+  pub spare : core.spare ≡ length core.outs
   -- numbers rise, no group stands twice, and each record is whole
   pub rises : Rises 0 bag core.next
   pub handed : core.handed ≤ core.next
@@ -121,6 +136,14 @@ pub record IsPlaced (core : CoreView) (bag : List Live) : Type 0 where
   -- the slots in use are the records in slots; what the launches out may send has room
   pub used : core.used ≡ counts core.handed 0 (length core.shape.units) bag
   pub room : (v : ℕ) → slice_index core.used v + reserved core.shape core.outs v ≤ core.width * most core.shape v
+
+-- Each ticket below the next one is that of a launch out or was settled: as many were as the journal has entries.
+pub record IsTicketed (core : CoreView) : Type 0 where
+  pub settled : List ℕ
+  pub one_each : length settled ≡ length core.journal
+  pub below : Each (λ t. t < core.tickets) settled
+  pub none_out : Each (λ t. IsNotOut t core.outs) settled
+  pub all : (t : ℕ) → t < core.tickets → IsNotOut t core.outs → has_number settled t ≡ true
 
 -- records in rising order of number below the next one, each of a unit, with its words and groups
 pub record IsWhole (core : CoreView) (bag : List Live) : Type 0 where
@@ -146,6 +169,11 @@ pub record StandsFor (made : Meaning) (script : List Sent) (start_buffers : Buff
   -- the records are those of the bag after it, each in one place, with their words
   pub bag : core.bag ≡ state.bag
   pub placed : IsPlaced core core.bag
+  -- what is left of the entries is an end of those of the script that have a group, the first perhaps opened in part
+  pub left : IsLeftOf (flat_map kept (born core.shape 0 script)) core.entries
+  -- each ticket that was given and is not out was settled
+  pub ticketed : IsTicketed core
+  pub kept : core.kept ≤ length core.journal
   -- the next number, the buffers, the denied requests and the peak are the run's
   pub next : core.next ≡ state.next
   pub buffers : core.buffers ≡ state.buffers

@@ -1,6 +1,6 @@
-ghost use Rattle.wg_standing.specs.Laws.{BeginningsPlace, BeginningsStand, BytesAreOfSlots, ChoicesCanOpen, CompleteIsIdle, IdleIsComplete, LaunchesLeaveEachList, NeverBlocked, OnlyUnitsAreNeeded, OpeningsLeave, OpeningsPlace, OpeningsStand, OutsFit, PeaksFitPlan, SettlingsFree, SettlingsLeave, SettlingsPlace, SettlingsStand, StoppingsStand, TakenStay, UnopenedIsWhole, UnsharedStay};
+ghost use Rattle.wg_standing.specs.Laws.{BeginningsPlace, BeginningsStand, BytesAreOfSlots, ChoicesCanOpen, CompleteIsIdle, IdleIsComplete, KeepingsPlace, KeepingsStand, LaunchesLeaveEachList, LiveBytesFitPlan, NeverBlocked, OnlyUnitsAreNeeded, OpeningsLeave, OpeningsPlace, OpeningsStand, OutsFit, PeaksFitPlan, RecordsHaveOnePlace, SettlingsFree, SettlingsLeave, SettlingsPlace, SettlingsStand, StoppingsStand, TakenStay, UnopenedIsWhole, UnsharedStay};
 
-use wg_machine::{needs_are_kept, peak_is_within_plan};
+use wg_machine::{needs_are_kept, peak_is_within_plan, slots_hold_bytes};
 
 /// A core at the start of a script has each entry record in its place.
 pub fn beginnings_place()
@@ -77,6 +77,28 @@ pub fn peaks_fit_plan()
 {
     peak_is_within_plan();
 }
+
+/// At every prefix of a run the live bytes are within the bytes of the plan.
+pub fn live_bytes_fit_plan()
+    ensures { LiveBytesFitPlan }
+{
+    slots_hold_bytes();
+}
+
+/// Waiting, held, left and taken records are the bag, each once.
+pub fn records_have_one_place()
+    ensures { RecordsHaveOnePlace }
+{}
+
+/// A guess that is counted as kept moves no record.
+pub fn keepings_place()
+    ensures { KeepingsPlace }
+{}
+
+/// A core whose last settling kept a guess stands for what it stood for.
+pub fn keepings_stand()
+    ensures { KeepingsStand }
+{}
 
 /// What is unopened rises by number, and each of its records is whole.
 pub fn unopened_is_whole()

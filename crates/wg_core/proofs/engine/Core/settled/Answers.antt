@@ -114,7 +114,7 @@ invariant_of-self g c =
     let v = c.self.invariant in
     let h = v.placed in
     record {
-      placed = record { waits = h.waits; entries = h.entries; allowed = h.allowed; apart = h.apart; tickets_differ = h.tickets_differ; tickets_below = h.tickets_below; tickets = h.tickets; launches = h.launches; rises = h.rises; handed = h.handed; distinct = h.distinct; full = h.full; known = h.known; words = h.words; used = h.used; room = h.room };
+      placed = record { waits = h.waits; entries = h.entries; held = h.held; taken = h.taken; allowed = h.allowed; apart = h.apart; tickets_differ = h.tickets_differ; tickets_below = h.tickets_below; tickets = h.tickets; launches = h.launches; spare = h.spare; rises = h.rises; handed = h.handed; distinct = h.distinct; full = h.full; known = h.known; words = h.words; used = h.used; room = h.room };
       running = v.running;
       waiting = v.waiting;
       reserves = v.reserves;

@@ -11,4 +11,4 @@ invariant_of-result c =
 
 pub returns : goal.returns
 returns c =
-    rw (c.in_ok-store.ensures, c.new-2.ensures.items, c.new-3.ensures.items, c.len-next.ensures) (begun_view c.args.shape 1 c.args.limits c.args.entries c.requires.threads)
+    rw (c.in_ok-store.ensures, c.new-2.ensures.items, c.new-3.ensures.items, c.len-next.ensures) (begun_view c.beginnings_place.ensures c.args.shape 1 c.args.limits c.args.entries c.requires.threads c.requires.arrive)

@@ -34,6 +34,6 @@ returns c =
     let last : c.is_last_launch-last.result ≡ is_last shape e.unit (taken e.inputs bag) = c.is_last_launch-last.ensures ∙ ap (λ (ns : List ℕ). is_last shape e.unit (taken ns bag)) same in
     let l : Launch = record { unit = e.unit; records = R; group = c.linear_place-group.result; grid = G; last = c.is_last_launch-last.result } in
     let small : place_of G e.at < 2 ^ 32 =
-        subst (λ (g : List ℕ). place_of g e.at < 2 ^ 32) (sym grid)
-        (small_place c.live_groups_lie_in_grids.ensures shape bag e c.requires.good c.requires.fitting some test (ap numbers_of (sym is) ∙ numbers)) in
+    subst (λ (g : List ℕ). place_of g e.at < 2 ^ 32) (sym grid)
+    (small_place c.live_groups_lie_in_grids.ensures shape bag e c.requires.good c.requires.fitting some test (ap numbers_of (sym is) ∙ numbers)) in
     found c.launch_in_is_allowed.ensures shape bag e l c.requires.fitting some few test is numbers grid refl (c.linear_place-group.ensures small) last

@@ -4,50 +4,8 @@ ghost use Rattle.wg_typing.specs.Conversions as c;
 
 use crate::fitting::size_fits;
 use wg_tree::Scalar;
-use wg_typed::{bits_of, has_sign};
+use wg_typed::{counted, wider};
 use wg_typing::Numbers;
-
-/// In arithmetic `bool` becomes `int`.
-pub fn counted(s: Scalar) -> Scalar
-    ensures { result ≡ o.counted s }
-{
-    match s {
-        Scalar::Bool | Scalar::Int => Scalar::Int,
-        Scalar::Uint => Scalar::Uint,
-        Scalar::Int16 => Scalar::Int16,
-        Scalar::Uint16 => Scalar::Uint16,
-        Scalar::Int64 => Scalar::Int64,
-        Scalar::Uint64 => Scalar::Uint64,
-    }
-}
-
-/// The scalar of whole numbers of so many bits: 16, 64 or 32.
-fn integer(bits: u32, signed: bool) -> Scalar
-    ensures { result ≡ o.integer bits signed }
-{
-    match (bits, signed) {
-        (16, true) => Scalar::Int16,
-        (16, false) => Scalar::Uint16,
-        (64, true) => Scalar::Int64,
-        (64, false) => Scalar::Uint64,
-        (_, true) => Scalar::Int,
-        (_, false) => Scalar::Uint,
-    }
-}
-
-/// Of two scalars of whole numbers the wider, and at equal width the unsigned one.
-fn wider(a: Scalar, b: Scalar) -> Scalar
-    ensures { result ≡ o.wider a b }
-{
-    let (left, right) = (bits_of(a), bits_of(b));
-    if left < right {
-        b
-    } else if right < left {
-        a
-    } else {
-        integer(left, has_sign(a) & has_sign(b))
-    }
-}
 
 fn common_scalar(a: Scalar, b: Scalar) -> Scalar
     ensures { result ≡ o.common_scalar a b }

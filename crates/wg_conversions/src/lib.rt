@@ -6,7 +6,7 @@ mod fitting;
 mod operators;
 mod types;
 
-pub use agreed::{common, common_numbers, counted};
+pub use agreed::{common, common_numbers};
 pub use fitting::{fits, same_type};
 pub use operators::{operation_on, prefix_type, suited, suits, truths};
 pub use types::{

@@ -3,10 +3,10 @@ ghost use Rattle.wg_typed.specs.Operators as t;
 ghost use Rattle.wg_typing.specs.Conversions as c;
 ghost use Rattle.wg_typing.specs.TypingOperators as o;
 
-use crate::agreed::{common, counted, joined_size};
+use crate::agreed::{common, joined_size};
 use crate::types::{is_number, is_scalar, numbers};
 use wg_tree::{BinaryOperator, PrefixOperator, Scalar};
-use wg_typed::TypeTree;
+use wg_typed::{TypeTree, counted};
 use wg_typing::{Numbers, Operation};
 
 pub fn truths(size: Option<u32>) -> Numbers

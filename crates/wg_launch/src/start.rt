@@ -1,51 +1,11 @@
-ghost use Rattle.std.specs.Prelude.{◌≡◌, ◌*◌, ◌/◌, ◌%◌, IfOk, take};
+ghost use Rattle.std.specs.Prelude.{◌≡◌, ◌*◌, IfOk, take};
 ghost use Rattle.wg_semantics.specs.LaunchMeaning.{system_words, begins_with, first_value, first_values, first_shared};
-ghost use Rattle.wg_state.specs.Lanes.{coordinates_of, dispatch_of};
 
 use std::alloc::{AllocError, Global};
+use wg_state::{coordinates, dispatch_place};
 use wg_typed::{SystemValue, TypedFunction, TypedShared, TypedVariable};
 use wg_values::{Structs, zero_value, zero_words};
-use wg_words::{Word, WordLists, Words, add, mul};
-
-fn quotient(a: u64, b: u64) -> u64
-    ensures { result ≡ a / b }
-{
-    match a.checked_div(b) {
-        Some(q) => q,
-        None => 0,
-    }
-}
-
-fn remainder(a: Word, b: Word) -> Word
-    ensures { result ≡ a % b }
-{
-    match a.checked_rem(b) {
-        Some(r) => r,
-        None => a,
-    }
-}
-
-/// The coordinates of a number in a box of so many, x running fastest.
-pub fn coordinates(size: [Word; 3], number: u32) -> [Word; 3]
-    ensures { result ≡ coordinates_of size number }
-{
-    let [x, y, _] = size;
-    let row = quotient(u64::from(number), u64::from(x)) as u32;
-    let layer = quotient(u64::from(number), u64::from(x) * u64::from(y)) as u32;
-    [remainder(number, x), remainder(row, y), layer]
-}
-
-/// `SV_DispatchThreadID`.
-fn dispatch(group: [Word; 3], threads: [Word; 3], lane: u32) -> [Word; 3]
-    ensures { result ≡ dispatch_of group threads lane }
-{
-    let at = coordinates(threads, lane);
-    [
-        add(mul(group[0], threads[0]), at[0]),
-        add(mul(group[1], threads[1]), at[1]),
-        add(mul(group[2], threads[2]), at[2]),
-    ]
-}
+use wg_words::{Word, WordLists, Words};
 
 /// The words of a system value.
 fn system_value(
@@ -60,7 +20,10 @@ fn system_value(
     match value {
         SystemValue::GroupId => Words::from_slice(alloc, &group),
         SystemValue::GroupThreadId => Words::from_slice(alloc, &coordinates(threads, lane)),
-        SystemValue::DispatchThreadId => Words::from_slice(alloc, &dispatch(group, threads, lane)),
+        SystemValue::DispatchThreadId => Words::from_slice(
+            alloc,
+            &dispatch_place(group, threads, lane),
+        ),
         SystemValue::GroupIndex => Words::from_slice(alloc, &[lane]),
     }
 }

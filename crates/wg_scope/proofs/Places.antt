@@ -1,5 +1,5 @@
 -- Last places of names, and the map of them.
-use Rattle.std.proofs.Common.{◌≡◌, ℕ, zero, suc, ◌+◌, ◌<◌, length-append, Bool, true, false, cond, List, [], ◌∷◌, ◌++◌, length, map, take, Option, Some, None, refl, sym, ap, subst, ◌∙◌, ⊎_elim, append_assoc, append-nil, arith}
+use Rattle.std.proofs.Common.{◌≡◌, ℕ, zero, suc, ◌+◌, ◌<◌, length-append, Bool, true, false, cond, List, [], ◌∷◌, ◌++◌, length, take, Option, Some, None, refl, sym, ap, subst, ◌∙◌, ⊎_elim, append_assoc, append-nil, arith}
 use Rattle.std.proofs.lemmas.List.{take-append-le}
 use Rattle.std.specs.Prelude.{◌⊎◌, option_map, slice_get, if◌then◌else◌}
 use Rattle.std.specs.Option.{option_or}
@@ -9,7 +9,7 @@ use Rattle.std.proofs.lemmas.Slice.Eq.{bytes_eq-Decides}
 use Rattle.wg_typing.specs.declared.scope.Declared.{Declared}
 use Rattle.wg_words.specs.Maybe.{◌>>=◌}
 use Rattle.wg_typing.specs.Maybe.{where_true}
-use Rattle.wg_scope.specs.Names.{found_in}
+use Rattle.wg_text.specs.Names.{found_in}
 use Rattle.wg_typing.specs.Scope.{look}
 use Rattle.wg_scope.specs.Latest.{last_at, declared_in, Chained, known_at, Agrees}
 use Rattle.wg_scope.specs.declared.scope.Entry.{Entry}

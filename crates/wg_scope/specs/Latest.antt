@@ -4,7 +4,7 @@ use Rattle.std.specs.Option.{option_or}
 use Rattle.std.specs.Str.{bytes_eq}
 use Rattle.wg_words.specs.Maybe.{◌>>=◌}
 use Rattle.wg_typing.specs.Maybe.{where_true}
-use Rattle.wg_scope.specs.Names.{found_in}
+use Rattle.wg_text.specs.Names.{found_in}
 use Rattle.wg_typing.specs.declared.scope.Declared.{Declared}
 use Rattle.wg_scope.specs.declared.scope.Entry.{Entry}
 

@@ -1,10 +1,8 @@
 //! Names in scope: what a name stands for, however many there are, and scopes that are closed again.
 #![tactic(auto)]
 
-mod name_map;
 mod scope;
 
-pub use name_map::NameMap;
 pub use scope::Scope;
 
 /// Where a statement or an expression stands, with its names in scope.

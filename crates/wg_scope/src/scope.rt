@@ -4,10 +4,10 @@ ghost use Rattle.wg_scope.specs.declared.scope.Entry.{Entry};
 ghost use Rattle.wg_scope.specs.Latest.{known_at};
 ghost use Rattle.wg_typing.specs.Scope.{constant_if, struct_if};
 
-use crate::name_map::NameMap;
 use sqlite_items::Items;
 use std::alloc::{AllocError, Global};
 use std::marker::Model;
+use wg_text::NameMap;
 use wg_tree::Named;
 use wg_typed::{ConstValue, TypeTree};
 use wg_typing::{Declared, Meant};

@@ -1,69 +1,21 @@
 //! Constants as numbers of their scalars, and the operators on them.
 ghost use Rattle.std.specs.Prelude.{◌≡◌};
-ghost use Rattle.wg_typed.specs.Operators.{width_of, is_signed, integer, counted, wider, gives_truth, is_shift, literal_scalar};
+ghost use Rattle.wg_typed.specs.Operators.{gives_truth, is_shift, literal_scalar};
 ghost use Rattle.wg_typed.specs.Constants.{const_scalar, const_number, constant_of, number_as, const_as, literal, reckoned_in, applied, prefix_scalar, prefixed_constant, chosen};
 
 use crate::numbers::{combine_number, convert_number, prefix_number};
+use crate::scalars::{bits_of, counted, has_sign, integer, wider};
 use crate::types::ConstValue;
 use wg_tree::{BinaryOperator, PrefixOperator, Scalar};
-
-/// The bits of a scalar's number.
-pub fn bits_of(s: Scalar) -> u32
-    ensures { result ≡ width_of s }
-{
-    match s {
-        Scalar::Int16 | Scalar::Uint16 => 16,
-        Scalar::Bool | Scalar::Int | Scalar::Uint => 32,
-        Scalar::Int64 | Scalar::Uint64 => 64,
-    }
-}
-
-/// Whether a scalar has negative numbers.
-pub fn has_sign(s: Scalar) -> bool
-    ensures { result ≡ is_signed s }
-{
-    match s {
-        Scalar::Int | Scalar::Int16 | Scalar::Int64 => true,
-        Scalar::Bool | Scalar::Uint | Scalar::Uint16 | Scalar::Uint64 => false,
-    }
-}
-
-/// The scalar of whole numbers of so many bits: 16, 64 or 32.
-fn whole_scalar(bits: u32, signed: bool) -> Scalar
-    ensures { result ≡ integer bits signed }
-{
-    match (bits, signed) {
-        (16, true) => Scalar::Int16,
-        (16, false) => Scalar::Uint16,
-        (64, true) => Scalar::Int64,
-        (64, false) => Scalar::Uint64,
-        (_, true) => Scalar::Int,
-        (_, false) => Scalar::Uint,
-    }
-}
-
-/// Of two scalars of whole numbers the wider, and at equal width the unsigned one.
-fn wider_one(a: Scalar, b: Scalar) -> Scalar
-    ensures { result ≡ wider a b }
-{
-    let (left, right) = (bits_of(a), bits_of(b));
-    if left < right {
-        b
-    } else if right < left {
-        a
-    } else {
-        whole_scalar(left, has_sign(a) && has_sign(b))
-    }
-}
 
 /// The scalar of a number as it is written, with its suffixes `u` and `l`.
 pub fn scalar_of_literal(value: u64, unsigned: bool, long: bool) -> Scalar
     ensures { result ≡ literal_scalar value unsigned long }
 {
     if long || value >= 0x1_0000_0000 {
-        whole_scalar(64, !unsigned && value < 0x8000_0000_0000_0000)
+        integer(64, !unsigned && value < 0x8000_0000_0000_0000)
     } else {
-        whole_scalar(32, !unsigned && value < 0x8000_0000)
+        integer(32, !unsigned && value < 0x8000_0000)
     }
 }
 
@@ -88,7 +40,7 @@ pub(crate) fn literal_value(value: u64, unsigned: bool, long: bool) -> ConstValu
 fn scalar(c: ConstValue) -> Scalar
     ensures { result ≡ const_scalar c }
 {
-    whole_scalar(c.bits, c.signed)
+    integer(c.bits, c.signed)
 }
 
 /// A constant's number in its scalar.
@@ -138,7 +90,7 @@ fn reckons_in(operator: BinaryOperator, a: ConstValue, b: ConstValue) -> Scalar
 {
     match operator {
         BinaryOperator::ShiftLeft | BinaryOperator::ShiftRight => scalar(a),
-        _ => wider_one(scalar(a), scalar(b)),
+        _ => wider(scalar(a), scalar(b)),
     }
 }
 
@@ -175,6 +127,6 @@ pub(crate) fn apply_prefix(operator: PrefixOperator, a: ConstValue) -> ConstValu
 pub(crate) fn choose(test: ConstValue, a: ConstValue, b: ConstValue) -> ConstValue
     ensures { result ≡ chosen test a b }
 {
-    let of = wider_one(scalar(a), scalar(b));
+    let of = wider(scalar(a), scalar(b));
     declare_constant(of, if number(test) != 0 { a } else { b })
 }

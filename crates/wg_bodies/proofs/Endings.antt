@@ -1,6 +1,5 @@
 -- How sound statements end outside loops: they go on, or return.
-use Rattle.std.proofs.Common.{◌≡◌, ℕ, zero, suc, Bool, true, false, cond, List, [], ◌∷◌, map, Option, Some, None, refl, sym, ap, ◌∙◌, subst}
-use Rattle.std.specs.Prelude.{◌&&◌}
+use Rattle.std.proofs.Common.{◌≡◌, ℕ, zero, suc, Bool, true, false, cond, List, [], ◌∷◌, map, Option, Some, None, sym, ap, ◌∙◌, subst}
 use Rattle.wg_words.specs.Truth.{is_true}
 use Rattle.wg_state.specs.Turns.{Ending, Spent, Done, Action, and_then, ◌>>=◌, ◌>>◌, pure, turn}
 use Rattle.wg_semantics.specs.Places.{Setting}
@@ -15,19 +14,12 @@ use Rattle.wg_sound.specs.Room.{Room}
 use Rattle.wg_sound.specs.SoundStmt.{stmt_sound}
 use Rattle.wg_sound.specs.SoundStmt.{stmt_step as sound_step}
 use Rattle.wg_sound.specs.SoundStep.{sound_of}
-use Rattle.wg_sound.specs.Tests.{every}
+use Rattle.wg_facts.specs.Tests.{every}
 use Rattle.wg_typing.specs.Conversions.{truth_type}
 use Rattle.wg_typed.specs.declared.typed_expr.TypedExpr.{TypedExpr}
 use Rattle.wg_typed.specs.declared.typed_stmt.TypedStmt.{TypedStmt, roll-TypedStmt, fold-roll-TypedStmt, ind-TypedStmt, map-TypedStmt}
 use Rattle.wg_typed.specs.declared.typed_stmt.TypedStmt.TheOpen.{TypedStmt-F}
-
-pub and_left : (a b : Bool) → (a && b) ≡ true → a ≡ true
-and_left true b e = refl
-and_left false b e = e
-
-pub and_right : (a b : Bool) → (a && b) ≡ true → b ≡ true
-and_right true b e = e
-and_right false b e = absurd (cc)
+use Rattle.wg_facts.proofs.Basics.{and_left, and_right}
 
 -- spent, or gone on, or returned
 abbrev pub Fine : Ending State Flow → Type 0

@@ -42,8 +42,8 @@ use Rattle.wg_typed.specs.Directions.{direction_of}
 use Rattle.wg_typed.specs.Operators.{converted, combined_words, prefixed_words}
 use Rattle.wg_typed.specs.Intrinsics.{called_words}
 use Rattle.wg_bodies.proofs.Doing.{Alike, alike_self, alike_bind, alike_first, alike_when}
-use Rattle.wg_bodies.proofs.Endings.{and_left, and_right}
-use Rattle.wg_bodies.proofs.Plain.{AllSound, test_so, found_so, where_holds, never_both, reckoned_sound, constructed_sound, CallsPlain, calls_plain, IsPlain, names_no_output, names_no_record}
+use Rattle.wg_bodies.proofs.Plain.{AllSound, never_both, reckoned_sound, constructed_sound, CallsPlain, calls_plain, IsPlain, names_no_output, names_no_record}
+use Rattle.wg_facts.proofs.Basics.{and_left, and_right, test_so, then_some, where_so}
 
 -- the meanings of a function in two settings
 pub record SameCallee (x y : Callee) : Type 0 where
@@ -145,7 +145,7 @@ module _ (a other : Setting) (cs ds : List Callee) (room : Room) (plain : IsPlai
       → Alike (chained (map x (map p ls)) t words) (chained (map y (map p ls)) t words)
   chained_alike p x y all [] from u h t words = alike_self (pure words)
   chained_alike p x y all (c ∷ ls) from u h t words =
-      let k = found_so (link_of room (p c) from) (chain_end (map (link_of room) (map p ls))) u h in
+      let k = then_some (link_of room (p c) from) (chain_end (map (link_of room) (map p ls))) u h in
       alike_bind ((x (p c)).next t words) ((y (p c)).next t words) _ _ ((all c).next from k.0 k.1 t words) (λ more.
       subst (λ of. Alike (chained (map x (map p ls)) (x (p c)).of more) (chained (map y (map p ls)) of more)) (all c).of (chained_alike p x y all ls k.0 u k.2 (x (p c)).of more))
 
@@ -294,8 +294,8 @@ module _ (a other : Setting) (cs ds : List Callee) (room : Room) (plain : IsPlai
     link_level y = record {
       of = refl;
       next = λ from u e t words.
-          let x = found_so (before_type y.before from) _ u e in
-          linked_alike y.operator y.before t _ _ _ words (he y.operand) (and_left (shown room (pe y.operand)).sound _ (where_holds ((shown room (pe y.operand)).sound && operates y.operator x.0 (shown room (pe y.operand)).of y.of) y.of u x.2));
+          let x = then_some (before_type y.before from) _ u e in
+          linked_alike y.operator y.before t _ _ _ words (he y.operand) (and_left (shown room (pe y.operand)).sound _ (where_so ((shown room (pe y.operand)).sound && operates y.operator x.0 (shown room (pe y.operand)).of y.of) y.of u x.2).0);
     }
 
   pub right : (e : TypedExpr) → RightExpr e

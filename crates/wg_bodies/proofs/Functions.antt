@@ -1,7 +1,6 @@
 -- A plain function of a sound text does the same in two settings with the same structs.
-use Rattle.std.proofs.Common.{◌≡◌, ◌<◌, ℕ, zero, suc, true, false, List, [], ◌∷◌, ◌++◌, length, Some, refl, sym, ap, ◌∙◌, subst, arith}
-use Rattle.std.specs.Prelude.{nat_lt, slice_get}
-use Rattle.std.proofs.lemmas.Grind.{common_steps}
+use Rattle.std.proofs.Common.{◌≡◌, ℕ, zero, suc, false, List, [], ◌∷◌, ◌++◌, length, Some, refl, sym, ap, ◌∙◌, subst, arith}
+use Rattle.std.specs.Prelude.{slice_get}
 use Rattle.std.proofs.lemmas.List.{length-append}
 use Rattle.wg_state.specs.declared.world.World.{World}
 use Rattle.wg_semantics.specs.Places.{Setting}
@@ -13,29 +12,12 @@ use Rattle.wg_typed.specs.declared.typed.Typed.{Typed}
 use Rattle.wg_typed.specs.declared.typed.TypedFunction.{TypedFunction}
 use Rattle.wg_typed.specs.declared.typed.TypedStruct.{TypedStruct}
 use Rattle.wg_bodies.proofs.Exprs.{SameCallee, SameCalls, with_structs}
-use Rattle.wg_bodies.proofs.Phases.{nothing_more, joined}
 use Rattle.wg_bodies.proofs.Plain.{plain_room}
 use Rattle.wg_bodies.proofs.Stmts.{body_alike}
+use Rattle.wg_facts.proofs.Basics.{some_value}
+use Rattle.wg_facts.proofs.Lists.{joined, nothing_more, front, at_end}
 
 -- ---- lists
-
-some_value : {A : Type 0} {x y : A} → Some x ≡ Some y → x ≡ y
-some_value {A} {x} {y} e = cc
-
-less_so : (m n : ℕ) → m < n → nat_lt m n ≡ true
-less_so m n l = grind (arith, common_steps, l)
-
-so_less : (m n : ℕ) → nat_lt m n ≡ true → m < n
-so_less m n e = grind (arith, common_steps, e)
-
-front : {A : Type 0} (xs ys : List A) (n : ℕ) → nat_lt n (length xs) ≡ true → slice_get (xs ++ ys) n ≡ slice_get xs n
-front [] ys n h = let l : n < 0 = so_less n 0 h in absurd (omega (arith, l))
-front (x ∷ xs) ys zero h = refl
-front (x ∷ xs) ys (suc n) h = let l : suc n < length (x ∷ xs) = so_less (suc n) (length (x ∷ xs)) h in front xs ys n (less_so n (length xs) (omega (arith, l)))
-
-found_at : {A : Type 0} (xs ys : List A) (x : A) → slice_get (xs ++ x ∷ ys) (length xs) ≡ Some x
-found_at [] ys x = refl
-found_at (z ∷ xs) ys x = found_at xs ys x
 
 -- what stands in a list with one more at its end
 pushed : {A : Type 0} (P : Type 0) (xs : List A) (x : A) (n : ℕ) (y : A) → slice_get (xs ++ x ∷ []) n ≡ Some y → (slice_get xs n ≡ Some y → P) → (n ≡ length xs → x ≡ y → P) → P
@@ -76,7 +58,7 @@ module _ (a other : Setting) (text : Typed) (sound : IsSound text) where
 
   function_alike : (before rest : List TypedFunction) (cs ds : List Callee) (f : TypedFunction) → text.functions ≡ before ++ f ∷ rest → SoFar before cs ds → is_node f ≡ false → SameCallee (callee_of a cs f) (callee_of b ds f)
   function_alike before rest cs ds f e h plain =
-      let own = sound.functions (length before) f (ap (λ fs. slice_get fs (length before)) e ∙ found_at before rest f) in
+      let own = sound.functions (length before) f (ap (λ fs. slice_get fs (length before)) e ∙ at_end before f rest) in
       record {
         parameters = refl;
         does = λ values. record {

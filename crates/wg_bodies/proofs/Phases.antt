@@ -14,14 +14,16 @@ use Rattle.wg_sound.specs.Placement.{in_body, has_lanes, Placed, stmt_placed, pl
 use Rattle.wg_sound.specs.Room.{Room}
 use Rattle.wg_sound.specs.Sound.{IsSoundFunction}
 use Rattle.wg_sound.specs.SoundStmt.{stmt_sound}
-use Rattle.wg_sound.specs.Tests.{every}
+use Rattle.wg_facts.specs.Tests.{every}
 use Rattle.wg_typed.specs.Uniform.{UniformSetting, setting_in}
 use Rattle.wg_typed.specs.declared.typed.Typed.{Typed}
 use Rattle.wg_typed.specs.declared.typed.TypedEntry.{TypedEntry}
 use Rattle.wg_typed.specs.declared.typed.TypedFunction.{TypedFunction}
 use Rattle.wg_typed.specs.declared.typed_stmt.TypedStmt.{TypedStmt, roll-TypedStmt, fold-roll-TypedStmt, ind-TypedStmt, map-TypedStmt}
 use Rattle.wg_typed.specs.declared.typed_stmt.TypedStmt.TheOpen.{TypedStmt-F}
-use Rattle.wg_bodies.proofs.Endings.{Fine, Ends, ends_all, and_left, and_right}
+use Rattle.wg_bodies.proofs.Endings.{Fine, Ends, ends_all}
+use Rattle.wg_facts.proofs.Basics.{and_left, and_right}
+use Rattle.wg_facts.proofs.Lists.{joined, nothing_more}
 
 -- ---- one lane
 
@@ -74,10 +76,6 @@ nothing_done v false w t = refl
 maps_joined : (f : TypedStmt → Action State Flow) (xs ys : List TypedStmt) → map f (xs ++ ys) ≡ map f xs ++ map f ys
 maps_joined f [] ys = refl
 maps_joined f (x ∷ xs) ys = ap (λ zs. f x ∷ zs) (maps_joined f xs ys)
-
-pub joined : {A : Type 0} (xs ys zs : List A) → (xs ++ ys) ++ zs ≡ xs ++ (ys ++ zs)
-joined [] ys zs = refl
-joined (x ∷ xs) ys zs = ap (λ ws. x ∷ ws) (joined xs ys zs)
 
 -- two blocks on a lane
 blocks_once : (f : TypedStmt → Action State Flow) (xs ys : List TypedStmt) (lane : Lane) (w : World) (t : ℕ) → Ends (block (map f xs))
@@ -174,10 +172,6 @@ module _ (doing : Doing) where
         ∙ ap (λ x. lanes_run (doing.body (x ∷ [])) 0) (same s)
 
 -- ---- whole bodies
-
-pub nothing_more : {A : Type 0} (xs : List A) → xs ≡ xs ++ []
-nothing_more [] = refl
-nothing_more (x ∷ xs) = ap (λ ys. x ∷ ys) (nothing_more xs)
 
 nothing_after : (x : Ending World (List Lane)) → and_then x (phases_run []) ≡ x
 nothing_after Spent = refl

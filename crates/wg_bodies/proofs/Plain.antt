@@ -1,10 +1,9 @@
 -- What is not in a sound plain function: an input, outputs, handles. And what its calls and lists of operands say of their parts.
 use Rattle.std.proofs.Common.{◌≡◌, ℕ, Bool, true, false, not, List, [], ◌∷◌, ◌++◌, length, Option, Some, None, refl, sym, ap, ◌∙◌, subst, arith, ◌<◌}
 use Rattle.std.proofs.lemmas.Grind.{common_steps}
-use Rattle.std.specs.Prelude.{◌&&◌, ◌||◌, nat_lt, slice_get}
+use Rattle.std.specs.Prelude.{◌&&◌, nat_lt, slice_get}
 use Rattle.wg_words.specs.Maybe.{◌>>=◌}
 use Rattle.wg_typing.specs.Conversions.{numbers}
-use Rattle.wg_typing.specs.Maybe.{where_true}
 use Rattle.wg_typing.specs.TypingIntrinsic.{Reckons, in_common, in_uint, to_one_truth, in_truths, choosing}
 use Rattle.wg_sound.specs.Room.{Room, Output, Input, is_node, output_at, input_in, handle_record, output_of, outputs_of, input_of, input_of_type}
 use Rattle.wg_sound.specs.Sound.{parameter_stands, handle_stands, IsSoundFunction}
@@ -12,7 +11,7 @@ use Rattle.wg_sound.specs.SoundCalls.{passes, all_pass, same_result, gives, call
 use Rattle.wg_sound.specs.SoundForms.{Shown, is_a}
 use Rattle.wg_sound.specs.SoundOperators.{is_counted, is_truths, truths_like}
 use Rattle.wg_sound.specs.Room.{is_record, is_value_of}
-use Rattle.wg_sound.specs.Tests.{test, every}
+use Rattle.wg_facts.specs.Tests.{test, every}
 use Rattle.wg_typed.specs.declared.types.TypeTree.{TypeTree}
 use Rattle.wg_typed.specs.declared.typed.Typed.{Typed}
 use Rattle.wg_typed.specs.declared.typed.TypedFunction.{TypedFunction}
@@ -22,21 +21,9 @@ use Rattle.wg_typed.specs.declared.typed.TypedParameterType.{TypedParameterType}
 use Rattle.wg_typed.specs.declared.typed.TypedParameterType.TheVariants as parameter
 use Rattle.wg_typed.specs.declared.typed.TypedStruct.{TypedStruct}
 use Rattle.wg_typing.specs.declared.numbers.Numbers.{Numbers}
-use Rattle.wg_bodies.proofs.Endings.{and_left, and_right}
+use Rattle.wg_facts.proofs.Basics.{and_left, and_right, both, test_so}
 
 -- ---- tests
-
-pub test_so : {A : Type 0} (f : A → Bool) (o : Option A) → test f o ≡ true → (a : A) × (o ≡ Some a) × (f a ≡ true)
-test_so f None e = absurd (cc)
-test_so f (Some a) e = (a, refl, e)
-
-pub found_so : {A B : Type 0} (o : Option A) (f : A → Option B) (b : B) → (o >>= f) ≡ Some b → (a : A) × (o ≡ Some a) × (f a ≡ Some b)
-found_so None f b e = absurd (cc)
-found_so (Some a) f b e = (a, refl, e)
-
-pub where_holds : {A : Type 0} (b : Bool) (a x : A) → where_true b a ≡ Some x → b ≡ true
-where_holds true a x e = refl
-where_holds false a x e = absurd (cc)
 
 test_none : {A : Type 0} (f : A → Bool) (o : Option A) → o ≡ None → test f o ≡ true → ⊥
 test_none f None e h = cc
@@ -46,27 +33,20 @@ pub never_both : (b : Bool) → b ≡ false → b ≡ true → ⊥
 never_both true e h = cc
 never_both false e h = cc
 
-pub either_so : (a b : Bool) (p : Type 0) → (a || b) ≡ true → (a ≡ true → p) → (b ≡ true → p) → p
-either_so true b p e f g = f refl
-either_so false b p e f g = g e
-
 -- ---- lists of sound expressions
 
 abbrev pub AllSound : List Shown → Type 0
 AllSound es = every (λ (e : Shown). e.sound) es ≡ true
 
-pub both_true : {a b : Bool} → a ≡ true → b ≡ true → (a && b) ≡ true
-both_true {a} {b} e f = ap (λ x. x && b) e ∙ f
-
 each_so : (f : Shown → Bool) → ((e : Shown) → f e ≡ true → e.sound ≡ true) → (es : List Shown) → every f es ≡ true → AllSound es
 each_so f so [] h = refl
-each_so f so (e ∷ es) h = both_true (so e (and_left (f e) _ h)) (each_so f so es (and_right (f e) _ h))
+each_so f so (e ∷ es) h = both (so e (and_left (f e) _ h)) (each_so f so es (and_right (f e) _ h))
 
 are_sound : (types : List TypeTree) (es : List Shown) → are_of types es ≡ true → AllSound es
 are_sound [] [] h = refl
 are_sound [] (e ∷ es) h = absurd (cc)
 are_sound (t ∷ types) [] h = absurd (cc)
-are_sound (t ∷ types) (e ∷ es) h = both_true (and_left e.sound _ (and_left (is_a t e) _ h)) (are_sound types es (and_right (is_a t e) _ h))
+are_sound (t ∷ types) (e ∷ es) h = both (and_left e.sound _ (and_left (is_a t e) _ h)) (are_sound types es (and_right (is_a t e) _ h))
 
 all_are_sound : (t : TypeTree) (es : List Shown) → all_are t es ≡ true → AllSound es
 all_are_sound t es h = each_so (is_a t) (λ e k. and_left e.sound _ k) es h
@@ -87,7 +67,7 @@ passed_sound : (ps : List TypedParameter) (es : List Shown) → all_pass ps es �
 passed_sound [] [] h = refl
 passed_sound [] (e ∷ es) h = absurd (cc)
 passed_sound (p ∷ ps) [] h = absurd (cc)
-passed_sound (p ∷ ps) (e ∷ es) h = both_true (and_left e.sound _ (and_right (is_value_of e.of p.of) _ (and_left (passes p e) _ h))) (passed_sound ps es (and_right (passes p e) _ h))
+passed_sound (p ∷ ps) (e ∷ es) h = both (and_left e.sound _ (and_right (is_value_of e.of p.of) _ (and_left (passes p e) _ h))) (passed_sound ps es (and_right (passes p e) _ h))
 
 -- a call of a plain function before the own one
 pub record CallsPlain (room : Room) (number : ℕ) (es : List Shown) : Type 0 where

@@ -20,7 +20,7 @@ use Rattle.wg_sound.specs.SoundExpr.{shown}
 use Rattle.wg_sound.specs.SoundStep.{sound_of, is_target, destination_type, is_word_place, interlocks, step_sound, steps_sound, tells, starts, declares, start_sound}
 use Rattle.wg_sound.specs.SoundStmt.{returns, stmt_sound}
 use Rattle.wg_sound.specs.SoundStmt.{stmt_step as sound_step}
-use Rattle.wg_sound.specs.Tests.{test, if_any, every}
+use Rattle.wg_facts.specs.Tests.{test, if_any, every}
 use Rattle.wg_typing.specs.Conversions.{same_type, is_word, truth_type, uint_type}
 use Rattle.wg_typed.specs.Uniform.{is_finished}
 use Rattle.wg_typed.specs.Layout.{words_of}
@@ -38,9 +38,9 @@ use Rattle.wg_typed.specs.declared.typed_stmt.TypedStep.TheVariants as step
 use Rattle.wg_typed.specs.declared.typed_stmt.TypedStmt.{TypedStmt, roll-TypedStmt, fold-roll-TypedStmt, ind-TypedStmt, map-TypedStmt}
 use Rattle.wg_typed.specs.declared.typed_stmt.TypedStmt.TheOpen.{TypedStmt-F}
 use Rattle.wg_bodies.proofs.Doing.{Alike, alike_self, alike_bind, alike_first, alike_when, alike_go, alike_loop}
-use Rattle.wg_bodies.proofs.Endings.{and_left, and_right}
 use Rattle.wg_bodies.proofs.Exprs.{SameCalls, with_structs, ExprGood, values_alike, words_alike, called_alike, right}
-use Rattle.wg_bodies.proofs.Plain.{either_so, calls_plain, IsPlain, names_no_output, names_no_handle, names_no_input}
+use Rattle.wg_bodies.proofs.Plain.{calls_plain, IsPlain, names_no_output, names_no_handle, names_no_input}
+use Rattle.wg_facts.proofs.Basics.{and_left, and_right, either_so}
 
 module _ (a other : Setting) (cs ds : List Callee) (room : Room) (plain : IsPlain room) (same : SameCalls room cs ds) where
   abbrev b : Setting

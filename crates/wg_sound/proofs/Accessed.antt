@@ -14,7 +14,7 @@ use Rattle.wg_typed.specs.Layout.{types_of, field_types, element_type}
 use Rattle.wg_sound.specs.Room.{Room}
 use Rattle.wg_sound.specs.SoundExpr.{shown, form_of}
 use Rattle.wg_sound.specs.SoundForms.{Form, is_a, field_of, are_components, is_element, all_follow, all_single}
-use Rattle.wg_sound.specs.Tests.{test, every}
+use Rattle.wg_facts.specs.Tests.{test, every}
 use Rattle.wg_tree.specs.declared.expr.Scalar.{Scalar}
 use Rattle.wg_typed.specs.declared.types.TypeTree.{TypeTree}
 use Rattle.wg_typed.specs.declared.types.TypeTree.TheVariants as type
@@ -29,7 +29,7 @@ use Rattle.wg_typing.specs.declared.scope.Standing.{Standing}
 use Rattle.wg_typing.specs.declared.scope.Standing.TheVariants as standing
 use Rattle.wg_typing.specs.declared.scope.Value.{Value}
 use Rattle.wg_typing.specs.declared.scope.Value.TheVariants as value
-use Rattle.wg_sound.proofs.Basics.{and_then, If, and_left, and_right, both, if_then, if_was, if_where, if_so, then_some, where_so, type_is, type_self, type_same, test_some}
+use Rattle.wg_facts.proofs.Basics.{and_then, If, and_left, and_right, both, if_then, if_was, if_where, if_so, then_some, where_so, type_is, type_self, type_same, test_some}
 use Rattle.wg_sound.proofs.Layered.{Is, Placed, is_typed, made, held_Access, form_Field, form_Components, form_Index}
 use Rattle.wg_sound.proofs.Meanings.{ObjectIs, ValueIs, PartIs, AllParts, fit_is}
 use Rattle.wg_sound.proofs.Objects.{method_ok, method_is, has_method, element_is}

@@ -6,7 +6,7 @@ use Rattle.wg_typing.specs.RulesCollective.{takes_collective, is_direct, takes_c
 use Rattle.wg_typing.specs.Sites.{Sites, ◌&◌, within}
 use Rattle.wg_typing.specs.Site.{Site}
 use Rattle.wg_typing.specs.TypingEvents.{events_in}
-use Rattle.wg_sound.specs.Tests.{if_any, every}
+use Rattle.wg_facts.specs.Tests.{if_any, every}
 use Rattle.wg_sound.specs.Placement.{declares_last, begins_last}
 use Rattle.wg_typed.specs.declared.typed_expr.TypedExpr.{TypedExpr}
 use Rattle.wg_typed.specs.declared.typed_stmt.TypedAttribute.{TypedAttribute}

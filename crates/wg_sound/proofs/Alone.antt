@@ -3,7 +3,7 @@ use Rattle.std.proofs.Common.{◌≡◌, Bool, true, false, not, cond, List, [],
 use Rattle.std.specs.Prelude.{◌||◌, nat_lt}
 use Rattle.wg_typed.specs.Uniform.{UniformSetting}
 use Rattle.wg_typing.specs.RulesCollective.{in_collective_blocks, in_a_loop, takes_collective, is_direct}
-use Rattle.wg_sound.specs.Tests.{if_any, every}
+use Rattle.wg_facts.specs.Tests.{if_any, every}
 use Rattle.wg_sound.specs.Placement.{in_body, Where, in_block, in_branch, in_loop, has_lanes, takes, declares_last, begins_last, Placed, stmt_placed, placed}
 use Rattle.wg_typed.specs.declared.typed.TypedEntry.{TypedEntry}
 use Rattle.wg_typed.specs.declared.typed_stmt.TypedStmt.{TypedStmt, roll-TypedStmt, fold-roll-TypedStmt, ind-TypedStmt, map-TypedStmt}
@@ -12,7 +12,7 @@ use Rattle.wg_typing.specs.declared.context.Around.{Around}
 use Rattle.wg_typing.specs.declared.event.Region.{Region}
 use Rattle.wg_typing.specs.declared.event.Region.TheVariants as region
 use Rattle.wg_sound.proofs.Allowed.{Allowed, branch_of, allowed_step, allowed}
-use Rattle.wg_sound.proofs.Basics.{and_left, and_right, both}
+use Rattle.wg_facts.proofs.Basics.{and_left, and_right, both}
 use Rattle.wg_sound.proofs.Whole.{entry_around}
 
 loop_after : (path : List Region) (r : Region) → in_a_loop (path ++ r ∷ []) ≡ (in_a_loop path || in_a_loop (r ∷ []))

@@ -1,7 +1,6 @@
 -- Functions are sound.
-use Rattle.std.proofs.Common.{◌≡◌, ◌≤◌, ℕ, Bool, true, false, cond, List, [], ◌∷◌, ◌++◌, map, Option, Some, None, refl, sym, ap, ◌∙◌, subst, arith}
-use Rattle.std.proofs.lemmas.Grind.{common_steps}
-use Rattle.std.specs.Prelude.{nat_lt, ◌&&◌, is_some}
+use Rattle.std.proofs.Common.{◌≡◌, ℕ, Bool, true, false, cond, List, [], ◌∷◌, ◌++◌, map, Option, Some, None, refl, sym, ap, ◌∙◌, subst}
+use Rattle.std.specs.Prelude.{◌&&◌, is_some}
 use Rattle.wg_typed.specs.Uniform.{UniformSetting}
 use Rattle.wg_typing.specs.Maybe.{where_true, all_of}
 use Rattle.wg_typing.specs.Named.{is_among}
@@ -15,7 +14,7 @@ use Rattle.wg_typing.specs.TypingMarks.{marked_variable, with_variable, with_var
 use Rattle.wg_typing.specs.TypingParameter.{output_limit, Role, role_of, Before, one_more, takes_role, HeldRecords, empty, records, unsure_records, holds_named, holds, object_parameter, parameter_of, input_or_output, with_parameter, parameters_after, parameter_tree, parameters_trees, entry_of}
 use Rattle.wg_typing.specs.TypingSoFar.{Text, outside}
 use Rattle.wg_typing.specs.TypingStmt.{block_after, block_trees, walked}
-use Rattle.wg_sound.specs.Tests.{if_any, every}
+use Rattle.wg_facts.specs.Tests.{if_any, every}
 use Rattle.wg_sound.specs.StandingTypes.{stands_in}
 use Rattle.wg_sound.specs.Room.{Room, is_node}
 use Rattle.wg_sound.specs.Sound.{value_types, parameter_stands, handle_stands, IsEntryOf, IsSoundFunction}
@@ -48,9 +47,9 @@ use Rattle.wg_typing.specs.declared.event.Event.{Event}
 use Rattle.wg_typing.specs.declared.scope.Meant.{Meant}
 use Rattle.wg_typing.specs.declared.scope.Meant.TheVariants as meant
 use Rattle.wg_typing.specs.declared.so_far.FunctionHead.{FunctionHead}
-use Rattle.wg_sound.proofs.Basics.{If, both, some_value, if_then, if_was, if_so, then_some, where_so}
+use Rattle.wg_facts.proofs.Basics.{If, both, some_value, if_then, if_was, if_so, then_some, where_so, at_most}
 use Rattle.wg_sound.proofs.Meanings.{AllAgree, agree_push}
-use Rattle.wg_sound.proofs.Lists.{nothing_more, joined, every_all}
+use Rattle.wg_facts.proofs.Lists.{nothing_more, joined, every_all}
 use Rattle.wg_sound.proofs.Sizes.{TypesStand, types_push, TypeStands, named_stands}
 use Rattle.wg_sound.proofs.Whole.{Fits, entry_around}
 use Rattle.wg_sound.proofs.Accessed.{Later}
@@ -69,7 +68,7 @@ use Rattle.wg_typing.specs.RulesBadOutputCall.{second_finishes, bad_returns}
 use Rattle.wg_typing.specs.RulesCollective.{misplaced}
 use Rattle.wg_typing.specs.TypingActs.{is_output}
 use Rattle.wg_sound.proofs.Parameters.{parameters_first, outputs_few, StandsAlong, stands_after, parameters_keep}
-use Rattle.wg_sound.proofs.Sited.{empty_left, well_only, Well, well_left, well_right}
+use Rattle.wg_facts.proofs.Sited.{empty_left, well_only, Well, well_left, well_right}
 use Rattle.wg_sound.proofs.Walks.{BlockIs, block_is, block_grows, BodyIs, all_walks}
 
 -- ---- what parameters leave of a context
@@ -177,9 +176,6 @@ module _ (room : Room) where
       by_type (Some t) h e = subst (λ x. if_any (stands_in whole) x ≡ true) (some_value e) h.stands
 
 -- ---- nodes
-
-at_most : (m n : ℕ) → nat_lt m n ≡ false → n ≤ m
-at_most m n e = grind (arith, common_steps, e)
 
 entry_same : (b : Bool) (lanes : ℕ) (ps : List TypedParameter) → entry_around (entry_of (cond b (surrounding.Entry lanes) surrounding.Plain) ps) ≡ cond b (surrounding.Entry lanes) surrounding.Plain
 entry_same true lanes ps = refl

@@ -12,7 +12,7 @@ use Rattle.wg_typing.specs.TypingDeclaration.{local_form, start_in, start_of, st
 use Rattle.wg_typing.specs.TypingDeclared.{declared_type, fit_in}
 use Rattle.wg_typing.specs.TypingExpr.{part}
 use Rattle.wg_typing.specs.TypingFunction.{result_if}
-use Rattle.wg_sound.specs.Tests.{if_any, every}
+use Rattle.wg_facts.specs.Tests.{if_any, every}
 use Rattle.wg_sound.specs.StandingTypes.{stands_in}
 use Rattle.wg_sound.specs.Room.{Room, has_variable}
 use Rattle.wg_sound.specs.Sound.{handle_stands}
@@ -33,11 +33,11 @@ use Rattle.wg_typing.specs.declared.scope.Meant.{Meant}
 use Rattle.wg_typing.specs.declared.scope.Meant.TheVariants as meant
 use Rattle.wg_typing.specs.declared.scope.Value.{Value}
 use Rattle.wg_typing.specs.declared.scope.Value.TheVariants as value
-use Rattle.wg_sound.proofs.Basics.{and_then, If, and_left, and_right, both, or_left, or_right, if_then, if_was, if_where, every_more}
+use Rattle.wg_facts.proofs.Basics.{and_then, If, and_left, and_right, both, or_left, or_right, if_then, if_was, if_where, every_more}
 use Rattle.wg_sound.proofs.Layered.{Is, is_typed}
 use Rattle.wg_sound.proofs.Meanings.{ValueIs, Agrees, AllAgree, agree_push, fit_is}
 use Rattle.wg_sound.proofs.Growing.{Grows, grows_self, grows_then, once_grows, once_new, Ends, ends_before, local_there}
-use Rattle.wg_sound.proofs.Sited.{Well, well_left, well_right, well_only, is_false}
+use Rattle.wg_facts.proofs.Sited.{Well, well_left, well_right, well_only, is_false}
 use Rattle.wg_sound.proofs.Sizes.{StructBelow, TypesStand, types_push, TypeStands, named_stands, declared_stands}
 use Rattle.wg_sound.proofs.Whole.{Fits, part_is}
 use Rattle.wg_typing.specs.declared.context.VariableForm.{VariableForm}

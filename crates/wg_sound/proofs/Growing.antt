@@ -5,14 +5,14 @@ use Rattle.wg_typing.specs.Conversions.{same_type}
 use Rattle.wg_typing.specs.Maybe.{all_of}
 use Rattle.wg_typing.specs.Named.{is_among}
 use Rattle.wg_typing.specs.Scope.{Context, own_names, once, leave}
-use Rattle.wg_sound.specs.Tests.{test}
+use Rattle.wg_facts.specs.Tests.{test}
 use Rattle.wg_sound.specs.Room.{Room, has_variable}
 use Rattle.wg_tree.specs.declared.expr.Named.{Named}
 use Rattle.wg_typed.specs.declared.types.TypeTree.{TypeTree}
 use Rattle.wg_typed.specs.declared.typed.TypedHandle.{TypedHandle}
 use Rattle.wg_typed.specs.declared.typed.TypedVariable.{TypedVariable}
-use Rattle.wg_sound.proofs.Basics.{some_value, type_same}
-use Rattle.wg_sound.proofs.Lists.{nothing_more, joined, at_end}
+use Rattle.wg_facts.proofs.Basics.{some_value, type_same}
+use Rattle.wg_facts.proofs.Lists.{nothing_more, joined, at_end}
 use Rattle.wg_typing.specs.declared.context.VariableForm.{VariableForm}
 
 -- ---- growing

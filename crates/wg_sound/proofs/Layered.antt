@@ -19,7 +19,7 @@ use Rattle.wg_typed.specs.declared.typed_expr.TypedKind.TheVariants as tree
 use Rattle.wg_typed.specs.declared.typed_expr.TypedLink.{TypedLink, roll-TypedLink, fold-roll-TypedLink}
 use Rattle.wg_typing.specs.declared.scope.Standing.{Standing}
 use Rattle.wg_typing.specs.declared.scope.Standing.TheVariants as standing
-use Rattle.wg_sound.proofs.Basics.{both, type_same}
+use Rattle.wg_facts.proofs.Basics.{both, type_same}
 
 -- ---- expressions that are of a type, and may be assigned as it is said
 

@@ -1,4 +1,3 @@
-pub mod Basics
 pub mod Numbered
 pub mod Layered
 pub mod Meanings
@@ -7,11 +6,9 @@ pub mod Reckoned
 pub mod Swapped
 pub mod Objects
 pub mod Accessed
-pub mod Lists
 pub mod Sizes
 pub mod Whole
 pub mod Stepped
-pub mod Sited
 pub mod Growing
 pub mod Declarations
 pub mod Statements
@@ -31,3 +28,4 @@ pub mod Together
 pub mod Alone
 pub mod Placing
 pub mod Literals
+pub mod Totals

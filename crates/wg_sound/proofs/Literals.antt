@@ -8,12 +8,12 @@ use Rattle.wg_sound.specs.Room.{Room}
 use Rattle.wg_sound.specs.SoundExpr.{shown}
 use Rattle.wg_sound.specs.SoundForms.{Shown, Held}
 use Rattle.wg_sound.specs.StandingTypes.{fits_word, are_words}
-use Rattle.wg_sound.specs.Tests.{every}
+use Rattle.wg_facts.specs.Tests.{every}
 use Rattle.wg_typed.specs.Layout.{words_of}
 use Rattle.wg_typed.specs.Operators.{scalar_of}
 use Rattle.wg_typed.specs.declared.types.TypeTree.{TypeTree}
 use Rattle.wg_typed.specs.declared.typed_expr.TypedKind.TheVariants as tree
-use Rattle.wg_sound.proofs.Basics.{and_left, and_right, same_count}
+use Rattle.wg_facts.proofs.Basics.{and_left, and_right, same_count}
 use Rattle.wg_sound.proofs.Layered.{rolled, held_Literal}
 
 module _ (room : Room) (place : Place) (t : TypeTree) (words : List ℕ) (h : (shown room (tree_of place t (tree.Literal words))).sound ≡ true) where

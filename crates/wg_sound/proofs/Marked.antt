@@ -4,7 +4,7 @@ use Rattle.std.specs.Prelude.{◌&&◌}
 use Rattle.wg_typed.specs.Uniform.{UniformSetting}
 use Rattle.wg_typing.specs.Conversions.{truth_type}
 use Rattle.wg_typing.specs.TypingMarks.{MarkedStmt, all_here, plain_stmt, else_branch, is_collective_if, mark_step, marked_stmt, marks_ifs, marked_body}
-use Rattle.wg_sound.specs.Tests.{if_any, every}
+use Rattle.wg_facts.specs.Tests.{if_any, every}
 use Rattle.wg_sound.specs.Room.{Room}
 use Rattle.wg_sound.specs.SoundStep.{sound_of, steps_sound, start_sound}
 use Rattle.wg_sound.specs.SoundStmt.{stmt_step, stmt_sound, body_sound}
@@ -14,7 +14,7 @@ use Rattle.wg_typed.specs.declared.typed_stmt.TypedStmt.{TypedStmt, roll-TypedSt
 use Rattle.wg_typed.specs.declared.typed_stmt.TypedStmt.TheVariants as t
 use Rattle.wg_typed.specs.declared.typed_stmt.TypedStmt.TheOpen.{TypedStmt-F}
 use Rattle.wg_typing.specs.declared.context.Around.{Around}
-use Rattle.wg_sound.proofs.Basics.{and_left, and_right, both}
+use Rattle.wg_facts.proofs.Basics.{and_left, and_right, both}
 use Rattle.wg_sound.proofs.Statements.{StmtIs, does, sound_Block, sound_Empty, sound_Declare, sound_Request, sound_Increment, sound_Complete, sound_Barrier, sound_Step, sound_Break, sound_Continue, sound_Return, sound_While, sound_For, others_sound, sound_If}
 
 module _ (room : Room) (u : UniformSetting) where

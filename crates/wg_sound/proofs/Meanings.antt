@@ -12,7 +12,7 @@ use Rattle.wg_typing.specs.TypingFunction.{passed_of}
 use Rattle.wg_typing.specs.TypingObjects.{is_tracked}
 use Rattle.wg_typing.specs.declared.scope.Sharing.{Sharing}
 use Rattle.wg_typing.specs.declared.scope.Standing.{Standing}
-use Rattle.wg_sound.specs.Tests.{test}
+use Rattle.wg_facts.specs.Tests.{test}
 use Rattle.wg_sound.specs.Room.{is_node, tells_last, Room, has_variable, has_shared, buffer_type, input_in, output_at, handle_record}
 use Rattle.wg_sound.specs.SoundExpr.{shown_if}
 use Rattle.wg_sound.specs.SoundForms.{is_index}
@@ -33,7 +33,7 @@ use Rattle.wg_typing.specs.declared.scope.Object.{Object}
 use Rattle.wg_typing.specs.declared.scope.Object.TheVariants as object
 use Rattle.wg_typing.specs.declared.scope.Value.{Value}
 use Rattle.wg_typing.specs.declared.scope.Value.TheVariants as value
-use Rattle.wg_sound.proofs.Basics.{If, both, if_then, if_where, type_is}
+use Rattle.wg_facts.proofs.Basics.{If, both, if_then, if_where, type_is}
 use Rattle.wg_sound.proofs.Layered.{Is, Placed, is_typed, made_fixed, held_Convert}
 use Rattle.wg_typing.specs.declared.part.Part.{Part}
 use Rattle.wg_typing.specs.declared.part.TypedPart.{TypedPart}

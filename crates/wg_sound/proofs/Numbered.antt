@@ -4,7 +4,7 @@ use Rattle.std.specs.Prelude.{◌&&◌}
 use Rattle.wg_typing.specs.Conversions.{numbers, sized, type_of, same_type, size_fits, numbers_fit, fits, is_number, common_size, joined_size}
 use Rattle.wg_tree.specs.declared.expr.Scalar.{Scalar}
 use Rattle.wg_typed.specs.declared.types.TypeTree.{TypeTree}
-use Rattle.wg_sound.proofs.Basics.{and_left, and_right, or_right, then_some, where_so}
+use Rattle.wg_facts.proofs.Basics.{and_left, and_right, or_right, then_some, where_so}
 use Rattle.wg_typing.specs.declared.numbers.Numbers.{Numbers}
 
 numbers_sized : (of : Scalar) (size : Option ℕ) → numbers (sized of size) ≡ Some (record { of = of; size = size })

@@ -15,7 +15,7 @@ use Rattle.wg_typed.specs.Layout.{words_of}
 use Rattle.wg_sound.specs.Room.{Room, Output, is_raw, is_writable_raw, holds_elements, element_standing, input_standing, is_record, buffer_type, input_in, output_at, handle_record}
 use Rattle.wg_sound.specs.SoundExpr.{reads_input, has_output, loads, shown_if}
 use Rattle.wg_sound.specs.SoundStmt.{is_sent, sends}
-use Rattle.wg_sound.specs.Tests.{if_any, every}
+use Rattle.wg_facts.specs.Tests.{if_any, every}
 use Rattle.wg_tree.specs.declared.expr.Scalar.TheVariants as scalar
 use Rattle.wg_typed.specs.declared.types.TypeTree.{TypeTree}
 use Rattle.wg_typed.specs.declared.types.TypeTree.TheVariants as type
@@ -28,7 +28,7 @@ use Rattle.wg_typing.specs.declared.scope.Object.{Object}
 use Rattle.wg_typing.specs.declared.scope.Object.TheVariants as object
 use Rattle.wg_typing.specs.declared.scope.Standing.{Standing}
 use Rattle.wg_typing.specs.declared.scope.Standing.TheVariants as standing
-use Rattle.wg_sound.proofs.Basics.{and_then, If, and_left, and_right, both, if_then, if_was, if_so, then_some, same_count, type_self, test_some}
+use Rattle.wg_facts.proofs.Basics.{and_then, If, and_left, and_right, both, if_then, if_was, if_so, then_some, same_count, type_self, test_some}
 use Rattle.wg_sound.proofs.Layered.{Is, Placed, is_typed, made, made_fixed, held_Element, held_Load, held_Input, held_Count, held_Handle, held_IsValid}
 use Rattle.wg_sound.proofs.Meanings.{IndexIs, index_shown, OutputIs, ObjectIs, ValueIs, AllParts, AllAre, fit_all_is}
 use Rattle.wg_sound.proofs.Swapped.{interlocked_raw_is}

@@ -16,7 +16,7 @@ use Rattle.wg_sound.specs.Room.{Room}
 use Rattle.wg_sound.specs.SoundExpr.{shown, link_of}
 use Rattle.wg_sound.specs.SoundOperators.{same_sizes, same_shape, operates, operates_in, result_in, result_of, before_type, chain_end, is_end, prefix_fits}
 use Rattle.wg_sound.specs.StandingTypes.{fits_word, are_words}
-use Rattle.wg_sound.specs.Tests.{test, every}
+use Rattle.wg_facts.specs.Tests.{test, every}
 use Rattle.wg_tree.specs.declared.expr.Named.{Named}
 use Rattle.wg_tree.specs.declared.expr.Scalar.{Scalar}
 use Rattle.wg_tree.specs.declared.expr.Scalar.TheVariants as scalar
@@ -31,8 +31,7 @@ use Rattle.wg_typing.specs.declared.scope.Meant.{Meant}
 use Rattle.wg_typing.specs.declared.scope.Meant.TheVariants as meant
 use Rattle.wg_typing.specs.declared.scope.Standing.TheVariants as standing
 use Rattle.wg_sound.proofs.Numbered.{numbers_type, is_number_type, fits_sized, joined_fits}
-use Rattle.wg_sound.proofs.Sizes.{less_so}
-use Rattle.wg_sound.proofs.Basics.{and_then, If, and_left, both, some_value, if_then, if_was, if_so, then_some, where_so, where_is, type_is, type_self, same_self}
+use Rattle.wg_facts.proofs.Basics.{and_then, If, and_left, both, some_value, if_then, if_was, if_so, then_some, where_so, where_is, type_is, type_self, same_self, less_so}
 use Rattle.wg_sound.proofs.Layered.{Is, is_typed, made, made_fixed, held_Literal, held_Variable, held_Shared, held_Zeros, held_Prefix, held_Convert, held_Chain, held_Choice, link_rolled}
 use Rattle.wg_sound.proofs.Meanings.{ValueIs, PartIs, TypedIs, Agrees, typed_is, convert_is, fit_is}
 use Rattle.wg_typing.specs.declared.context.Around.TheVariants as surrounding

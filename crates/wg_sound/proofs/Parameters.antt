@@ -7,7 +7,7 @@ use Rattle.wg_typing.specs.Named.{is_among}
 use Rattle.wg_typing.specs.Scope.{Context, declare, own_names, named_type}
 use Rattle.wg_typing.specs.TypingObjects.{is_tracked}
 use Rattle.wg_typing.specs.TypingParameter.{output_limit, output_site, Role, an_input, an_output, no_role, role_of, Before, is_input, is_output, role_in, one_more, takes_role, HeldRecords, empty, records, unsure_records, holds, is_marked, sharing_of, input_or_output, held_parameter, object_parameter, parameter_of, meant_if, parameter_variable, with_parameter, parameters_after, parameters_sites, parameter_tree, parameters_trees}
-use Rattle.wg_sound.specs.Tests.{test, every}
+use Rattle.wg_facts.specs.Tests.{test, every}
 use Rattle.wg_sound.specs.StandingTypes.{stands_in}
 use Rattle.wg_sound.specs.Room.{Room, Output, Input, output_if, input_if, output_of, outputs_of, input_of_type, input_of, tells_last}
 use Rattle.wg_tree.specs.declared.item.Parameter.{Parameter}
@@ -29,14 +29,14 @@ use Rattle.wg_typing.specs.declared.scope.Meant.{Meant}
 use Rattle.wg_typing.specs.declared.scope.Meant.TheVariants as meant
 use Rattle.wg_typing.specs.declared.scope.Sharing.TheVariants as sharing
 use Rattle.wg_typing.specs.declared.scope.Standing.{Standing}
-use Rattle.wg_sound.proofs.Basics.{If, both, some_value, if_was, if_so, then_some, where_so, every_more}
+use Rattle.wg_facts.proofs.Basics.{If, both, some_value, if_was, if_so, then_some, where_so, every_more}
 use Rattle.wg_sound.proofs.Meanings.{Agrees}
-use Rattle.wg_sound.proofs.Lists.{nothing_more, joined, at_end}
+use Rattle.wg_facts.proofs.Lists.{nothing_more, joined, at_end}
 use Rattle.wg_sound.specs.Sound.{value_type, value_types}
 use Rattle.wg_sound.proofs.Accessed.{Later}
 use Rattle.wg_sound.proofs.Declarations.{Stands, fits_more, named_type_stands}
 use Rattle.wg_sound.proofs.Growing.{form_types, forms_joined, Grows, grows_self, grows_then, once_grows, once_new, Ends, ends_before, local_there}
-use Rattle.wg_sound.proofs.Sited.{Well, well_left, well_right, well_only, is_false}
+use Rattle.wg_facts.proofs.Sited.{Well, well_left, well_right, well_only, is_false}
 use Rattle.wg_sound.proofs.Sizes.{StructBelow, TypeStands}
 use Rattle.wg_sound.proofs.Whole.{Fits}
 

@@ -4,7 +4,7 @@ use Rattle.std.specs.Prelude.{slice_get}
 use Rattle.std.specs.Option.{unwrap_or}
 use Rattle.wg_words.specs.Each.{Each}
 use Rattle.wg_typed.specs.Layout.{Range, rounded, begins, range_at, ranges_after, end_after, has_even, type_extent, struct_extent, plain_extent, extents_of, words_of, field_types, ranges_in, field_range, nowhere, NamesBelow, AreInOrder}
-use Rattle.wg_sound.specs.Tests.{every}
+use Rattle.wg_facts.specs.Tests.{every}
 use Rattle.wg_sound.specs.StandingTypes.{names_below}
 use Rattle.wg_sound.specs.SoundForms.{field_of}
 use Rattle.wg_typed.specs.declared.types.ElementType.TheVariants as element
@@ -12,9 +12,9 @@ use Rattle.wg_typed.specs.declared.types.Extent.{Extent}
 use Rattle.wg_typed.specs.declared.types.TypeTree.{TypeTree}
 use Rattle.wg_typed.specs.declared.types.TypeTree.TheVariants as type
 use Rattle.wg_typed.specs.declared.typed.TypedStruct.{TypedStruct}
-use Rattle.wg_sound.proofs.Basics.{and_left, and_right, both, some_value, then_some}
-use Rattle.wg_sound.proofs.Lists.{joined, at_end}
-use Rattle.wg_sound.proofs.Sizes.{less_so, extent_after, extents_apart, extents_more, extents_count, extent_same}
+use Rattle.wg_facts.proofs.Basics.{and_left, and_right, both, some_value, then_some, less_so}
+use Rattle.wg_facts.proofs.Lists.{joined, at_end}
+use Rattle.wg_sound.proofs.Sizes.{extent_after, extents_apart, extents_more, extents_count, extent_same}
 
 -- ---- ranges of parts one after another
 

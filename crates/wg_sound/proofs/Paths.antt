@@ -19,7 +19,7 @@ use Rattle.wg_typing.specs.TypingOperators.{suited}
 use Rattle.wg_typing.specs.TypingStep.{acted, evaluated, operator_of, assignable_target, updated, assigned, changed, step_did, step_sites, own_handle, step_stmt, header_trees, all_steps, maybe_steps}
 use Rattle.wg_typing.specs.TypingStmt.{Walk, block_after, block_sites, block_trees, branch_after, branches, else_after, else_is_block, else_sites, tree_in, returned_tree, stmt_walked, walked}
 use Rattle.wg_typing.specs.TypingAttributes.{attributes_of}
-use Rattle.wg_sound.specs.Tests.{if_any, every}
+use Rattle.wg_facts.specs.Tests.{if_any, every}
 use Rattle.wg_sound.specs.Placement.{starts_last, declares_last, begins_last}
 use Rattle.wg_sound.specs.Room.{Room}
 use Rattle.wg_sound.specs.SoundForms.{Shown, Held, Form, access_step}
@@ -63,12 +63,12 @@ use Rattle.wg_typing.specs.declared.scope.Act.TheVariants as act
 use Rattle.wg_typing.specs.declared.scope.Value.{Value}
 use Rattle.wg_typing.specs.declared.scope.Value.TheVariants as value
 use Rattle.wg_sound.proofs.Allowed.{Allowed, branch_of, Taken, taken_right, TakenIn, in_left, in_right, in_within, allowed, others_allowed, allowed_Block, allowed_Empty, allowed_Declare, allowed_Request, allowed_Increment, allowed_Complete, allowed_Barrier, allowed_Step, allowed_Break, allowed_Continue, allowed_Return, allowed_If, allowed_While, allowed_For, MayStand, may}
-use Rattle.wg_sound.proofs.Basics.{and_then, If, both, if_then, if_was, if_where}
+use Rattle.wg_facts.proofs.Basics.{and_then, If, both, if_then, if_was, if_where}
 use Rattle.wg_sound.proofs.Declarations.{Stands, stands_enter, stands_loop, FitsAlong, declaration_are}
 use Rattle.wg_sound.proofs.Growing.{Ends, ends_before, ends_inside, ends_same}
 use Rattle.wg_sound.proofs.Layered.{Is}
 use Rattle.wg_sound.proofs.Meanings.{ValueIs, fit_is}
-use Rattle.wg_sound.proofs.Sited.{Well, well_left, well_right, well_within}
+use Rattle.wg_facts.proofs.Sited.{Well, well_left, well_right, well_within}
 use Rattle.wg_sound.proofs.Walks.{WalkIs, AllWalks, block_grows, ElseIs, branch_keeps, else_grows, start_keeps, walk_is, branches_well}
 use Rattle.wg_sound.proofs.Whole.{Fits, part_is}
 

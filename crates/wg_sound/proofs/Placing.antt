@@ -5,7 +5,7 @@ use Rattle.wg_typed.specs.Uniform.{UniformSetting}
 use Rattle.wg_typing.specs.RulesCollective.{takes_call, misplaced_call, misplaced}
 use Rattle.wg_typing.specs.TypingActs.{is_output, is_sync}
 use Rattle.wg_typing.specs.TypingMarks.{all_here, marked_stmt, marked_body, with_variable, with_variables}
-use Rattle.wg_sound.specs.Tests.{every}
+use Rattle.wg_facts.specs.Tests.{every}
 use Rattle.wg_sound.specs.Placement.{in_body, Placed, placed}
 use Rattle.wg_typed.specs.declared.typed.TypedEntry.{TypedEntry}
 use Rattle.wg_typed.specs.declared.typed_stmt.TypedStmt.{TypedStmt}
@@ -18,7 +18,7 @@ use Rattle.wg_typing.specs.declared.part.CallKind.{CallKind}
 use Rattle.wg_typing.specs.declared.part.CallKind.TheVariants as call_kind
 use Rattle.wg_sound.proofs.Allowed.{Allowed, Taken, allowed}
 use Rattle.wg_sound.proofs.Alone.{body_alone}
-use Rattle.wg_sound.proofs.Sited.{Empty, empty_left, empty_right, is_false}
+use Rattle.wg_facts.proofs.Sited.{Empty, empty_left, empty_right, is_false}
 use Rattle.wg_sound.proofs.Together.{body_together}
 use Rattle.wg_sound.proofs.Whole.{entry_around}
 

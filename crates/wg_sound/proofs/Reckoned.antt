@@ -16,7 +16,7 @@ use Rattle.wg_sound.specs.SoundCalls.{all_are, are_of, reckons_on, is_part, coun
 use Rattle.wg_sound.specs.SoundExpr.{shown}
 use Rattle.wg_sound.specs.SoundForms.{Shown}
 use Rattle.wg_sound.specs.SoundOperators.{is_truths, truths_like}
-use Rattle.wg_sound.specs.Tests.{test, every}
+use Rattle.wg_facts.specs.Tests.{test, every}
 use Rattle.wg_tree.specs.declared.expr.Scalar.{Scalar}
 use Rattle.wg_tree.specs.declared.expr.Scalar.TheVariants as scalar
 use Rattle.wg_tree.specs.declared.item.Directed.{Directed}
@@ -32,7 +32,7 @@ use Rattle.wg_typed.specs.declared.typed_expr.TypedExpr.{TypedExpr}
 use Rattle.wg_typed.specs.declared.typed_expr.TypedKind.TheVariants as tree
 use Rattle.wg_typing.specs.declared.scope.FormalParameter.{FormalParameter}
 use Rattle.wg_sound.proofs.Numbered.{numbers_type}
-use Rattle.wg_sound.proofs.Basics.{and_then, If, and_left, and_right, both, not_true, not_false, some_value, if_then, if_was, if_where, if_so, then_some, where_so, all_first, same_count, same_self, scalar_self, type_is, type_self, type_same, test_some}
+use Rattle.wg_facts.proofs.Basics.{and_then, If, and_left, and_right, both, not_true, not_false, some_value, if_then, if_was, if_where, if_so, then_some, where_so, all_first, same_count, same_self, scalar_self, type_is, type_self, type_same, test_some}
 use Rattle.wg_sound.proofs.Layered.{Is, is_typed, made_fixed, held_Construct, held_Call, held_Intrinsic}
 use Rattle.wg_sound.proofs.Meanings.{ValueIs, PartIs, AllParts, TypedIs, AllTyped, AllAre, FunctionIs, typed_is, all_typed, convert_is, fit_is}
 use Rattle.wg_sound.proofs.Operated.{test_type, counted_counted, common_counted}

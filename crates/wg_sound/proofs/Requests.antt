@@ -5,7 +5,7 @@ use Rattle.wg_typing.specs.Maybe.{listed, all_of}
 use Rattle.wg_typing.specs.Scope.{Context}
 use Rattle.wg_typing.specs.TypingExpr.{part}
 use Rattle.wg_typing.specs.TypingHandle.{RequestForm, same_truth, handle_word, handle_record, request_in, handle_request, handle_tree, with_handle, request_stmt}
-use Rattle.wg_sound.specs.Tests.{test, if_any}
+use Rattle.wg_facts.specs.Tests.{test, if_any}
 use Rattle.wg_sound.specs.Room.{Room, Output, output_at}
 use Rattle.wg_sound.specs.Room.{handle_record as record_of_handle}
 use Rattle.wg_sound.specs.Sound.{handle_stands}
@@ -21,9 +21,9 @@ use Rattle.wg_typing.specs.declared.scope.Meant.TheVariants as meant
 use Rattle.wg_typing.specs.declared.scope.Object.TheVariants as object
 use Rattle.wg_typing.specs.declared.scope.Value.{Value}
 use Rattle.wg_typing.specs.declared.scope.Value.TheVariants as value
-use Rattle.wg_sound.proofs.Basics.{and_then, If, and_right, both, some_value, if_was, if_where, if_so, same_count, same_self, test_some, every_more}
+use Rattle.wg_facts.proofs.Basics.{and_then, If, and_right, both, some_value, if_was, if_where, if_so, same_count, same_self, test_some, every_more}
 use Rattle.wg_sound.proofs.Meanings.{ValueIs, RequestIs}
-use Rattle.wg_sound.proofs.Lists.{joined, at_end_of}
+use Rattle.wg_facts.proofs.Lists.{joined, at_end_of}
 use Rattle.wg_sound.proofs.Growing.{Grows, grows_self, Ends}
 use Rattle.wg_sound.proofs.Declarations.{Stands, fits_more}
 use Rattle.wg_sound.proofs.Statements.{StmtIs, does, sound_Request}

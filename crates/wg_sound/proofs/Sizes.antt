@@ -1,9 +1,8 @@
 -- The sizes of types stay when structs are added, and declared types stand in the text.
-use Rattle.std.proofs.Common.{◌≡◌, ◌<◌, ℕ, zero, suc, ◌+◌, true, List, [], ◌∷◌, ◌++◌, length, Option, Some, None, refl, sym, ap, ◌∙◌, subst, arith}
-use Rattle.std.specs.Prelude.{◌&&◌, nat_lt, nat_le, slice_get}
+use Rattle.std.proofs.Common.{◌≡◌, ◌<◌, ℕ, ◌+◌, true, List, [], ◌∷◌, ◌++◌, length, Option, Some, None, refl, sym, ap, ◌∙◌, subst, arith}
+use Rattle.std.specs.Prelude.{◌&&◌, nat_lt, nat_le}
 use Rattle.std.specs.Option.{unwrap_or, option_or}
 use Rattle.std.specs.Str.{bytes_eq}
-use Rattle.std.proofs.lemmas.Grind.{common_steps}
 use Rattle.std.proofs.lemmas.List.{length-append}
 use Rattle.wg_typing.specs.AttributeArguments.{is_narrow, is_positive}
 use Rattle.wg_typing.specs.Conversions.{element_of, of_value_type}
@@ -26,8 +25,8 @@ use Rattle.wg_typed.specs.declared.typed.TypedStruct.{TypedStruct}
 use Rattle.wg_typing.specs.declared.scope.Declared.{Declared}
 use Rattle.wg_typing.specs.declared.scope.Meant.{Meant}
 use Rattle.wg_typing.specs.declared.scope.Meant.TheVariants as meant
-use Rattle.wg_sound.proofs.Basics.{If, and_left, and_right, both, if_then, if_was, if_where}
-use Rattle.wg_sound.proofs.Lists.{nothing_more, joined}
+use Rattle.wg_facts.proofs.Basics.{If, and_left, and_right, both, if_then, if_was, if_where, less_so, so_less}
+use Rattle.wg_facts.proofs.Lists.{nothing_more, joined, front}
 
 -- ---- names
 
@@ -53,23 +52,12 @@ look_all p name (d ∷ rest) h = either (look name rest) (where_true (bytes_eq d
 
 -- ---- numbers
 
-pub less_so : (m n : ℕ) → m < n → nat_lt m n ≡ true
-less_so m n h = grind (arith, common_steps, h)
-
-pub so_less : (m n : ℕ) → nat_lt m n ≡ true → m < n
-so_less m n e = grind (arith, common_steps, e)
-
 pub less_longer : {A : Type 0} (n : ℕ) (xs ys : List A) → nat_lt n (length xs) ≡ true → nat_lt n (length (xs ++ ys)) ≡ true
 less_longer n xs ys h =
     let l : n < length xs = so_less n (length xs) h in
     subst (λ m. nat_lt n m ≡ true) (sym (length-append xs ys)) (less_so n (length xs + length ys) (omega (arith, l)))
 
 -- ---- sizes
-
-front : {A : Type 0} (xs ys : List A) (n : ℕ) → nat_lt n (length xs) ≡ true → slice_get (xs ++ ys) n ≡ slice_get xs n
-front [] ys n h = let l : n < 0 = so_less n 0 h in absurd (omega (arith, l))
-front (x ∷ xs) ys zero h = refl
-front (x ∷ xs) ys (suc n) h = let l : suc n < length (x ∷ xs) = so_less (suc n) (length (x ∷ xs)) h in front xs ys n (less_so n (length xs) (omega (arith, l)))
 
 -- what a struct takes after those before it
 abbrev pub extent_after : List Extent → TypedStruct → Extent

@@ -1,7 +1,7 @@
 -- The type of every sound expression of a sound text stands in the text: its structs are there, its arrays have elements, and it has no
 -- more words than a type may have.
 use Rattle.std.proofs.Common.{◌≡◌, ℕ, zero, suc, Bool, true, false, not, cond, List, [], ◌∷◌, ◌++◌, map, length, Option, Some, None, refl, sym, ap, subst, arith, ◌<◌}
-use Rattle.std.specs.Prelude.{◌&&◌, ◌||◌, ◌==◌, nat_lt, nat_le, slice_get, is_some}
+use Rattle.std.specs.Prelude.{◌&&◌, ◌==◌, nat_lt, nat_le, slice_get, is_some}
 use Rattle.wg_typing.specs.Conversions.{numbers, numbers_fit, same_type, is_number, fits, truth_type, uint_type, uints, Class, arithmetic, shift, comparison, logic, class_of}
 use Rattle.wg_typing.specs.TypingDeclared.{type_limit}
 use Rattle.wg_typing.specs.TypingIntrinsic.{Reckons, in_common, in_uint, to_one_truth, in_truths, choosing, reckons}
@@ -16,7 +16,7 @@ use Rattle.wg_sound.specs.SoundOperators.{is_counted, is_truths, operates_in, op
 use Rattle.wg_sound.specs.StandingTypes.{stands_in, names_below, is_struct}
 use Rattle.wg_typed.specs.declared.typed.TypedVariable.{TypedVariable}
 use Rattle.wg_sound.specs.Room.{is_node}
-use Rattle.wg_sound.specs.Tests.{test, if_any, every}
+use Rattle.wg_facts.specs.Tests.{test, if_any, every}
 use Rattle.wg_tree.specs.declared.expr.PrefixOperator.{PrefixOperator}
 use Rattle.wg_tree.specs.declared.expr.PrefixOperator.TheVariants as prefix
 use Rattle.wg_tree.specs.declared.expr.Scalar.{Scalar}
@@ -39,24 +39,15 @@ use Rattle.wg_typed.specs.declared.typed_expr.Access.TheOpen.{TypedKind-F, Acces
 use Rattle.wg_typed.specs.declared.typed_expr.TypedExpr.{TypedExpr, roll-TypedExpr, fold-roll-TypedExpr, ind-TypedExpr}
 use Rattle.wg_typed.specs.declared.typed_expr.TypedKind.{TypedKind, roll-TypedKind, fold-roll-TypedKind, map-TypedKind}
 use Rattle.wg_typed.specs.declared.typed_expr.TypedLink.{TypedLink, roll-TypedLink, fold-roll-TypedLink, map-TypedLink}
-use Rattle.wg_sound.proofs.Sizes.{less_so, so_less}
-use Rattle.wg_sound.proofs.Basics.{and_then, If, and_left, and_right, both, some_value, then_some, where_so, type_is}
+use Rattle.wg_facts.proofs.Basics.{and_then, If, and_left, and_right, both, some_value, then_some, where_so, type_is, less_so, so_less, test_so, either_so}
 use Rattle.wg_typing.specs.declared.numbers.Numbers.{Numbers}
 
 -- ---- tests
-
-pub test_so : {A : Type 0} (f : A → Bool) (o : Option A) → test f o ≡ true → (a : A) × (o ≡ Some a) × (f a ≡ true)
-test_so f None e = absurd (cc)
-test_so f (Some a) e = (a, refl, e)
 
 pub every_at : {A : Type 0} (f : A → Bool) (xs : List A) (n : ℕ) (x : A) → slice_get xs n ≡ Some x → every f xs ≡ true → f x ≡ true
 every_at f [] n x e h = absurd (cc)
 every_at f (y ∷ xs) zero x e h = subst (λ z. f z ≡ true) (some_value e) (and_left (f y) _ h)
 every_at f (y ∷ xs) (suc n) x e h = every_at f xs n x e (and_right (f y) _ h)
-
-either_so : (a b : Bool) (p : Type 0) → (a || b) ≡ true → (a ≡ true → p) → (b ≡ true → p) → p
-either_so true b p e f g = f refl
-either_so false b p e f g = g e
 
 module _ (structs : List TypedStruct) where
   -- numbers stand

@@ -23,7 +23,7 @@ use Rattle.wg_typing.specs.declared.scope.Act.{Act}
 use Rattle.wg_typing.specs.declared.scope.Act.TheVariants as act
 use Rattle.wg_typing.specs.declared.scope.Value.{Value}
 use Rattle.wg_typing.specs.declared.scope.Value.TheVariants as value
-use Rattle.wg_sound.proofs.Basics.{and_then, If, both, not_false, if_then, if_was, if_where, where_so, test_some, every_more}
+use Rattle.wg_facts.proofs.Basics.{and_then, If, both, not_false, if_then, if_was, if_where, where_so, test_some, every_more}
 use Rattle.wg_sound.proofs.Layered.{Is, is_typed}
 use Rattle.wg_sound.proofs.Meanings.{ActIs, ValueIs, PartIs, TypedIs, typed_is, convert_is, fit_is}
 use Rattle.wg_sound.proofs.Operated.{operation_is}

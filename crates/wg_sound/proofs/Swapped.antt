@@ -10,7 +10,7 @@ use Rattle.wg_typing.specs.TypingInterlocked.{a_value_alone, with_old, maybe_old
 use Rattle.wg_sound.specs.Room.{Room, is_writable_raw, buffer_type}
 use Rattle.wg_sound.specs.SoundExpr.{shown}
 use Rattle.wg_sound.specs.SoundStep.{is_word_place, sound_of, destination_type}
-use Rattle.wg_sound.specs.Tests.{test, if_any}
+use Rattle.wg_facts.specs.Tests.{test, if_any}
 use Rattle.wg_typed.specs.declared.types.TypeTree.{TypeTree}
 use Rattle.wg_typed.specs.declared.types.TypeTree.TheVariants as type
 use Rattle.wg_tree.specs.declared.expr.Scalar.TheVariants as scalar
@@ -21,7 +21,7 @@ use Rattle.wg_typed.specs.declared.typed_stmt.InterlockedForm.{InterlockedForm}
 use Rattle.wg_typed.specs.declared.typed_stmt.InterlockedForm.TheVariants as form
 use Rattle.wg_typing.specs.declared.scope.Standing.{Standing}
 use Rattle.wg_typing.specs.declared.scope.Standing.TheVariants as standing
-use Rattle.wg_sound.proofs.Basics.{If, both, not_false, if_then, if_was, if_where, where_so}
+use Rattle.wg_facts.proofs.Basics.{If, both, not_false, if_then, if_was, if_where, where_so, if_there_is}
 use Rattle.wg_sound.proofs.Layered.{Is, is_typed}
 use Rattle.wg_sound.proofs.Meanings.{ValueIs, PartIs, AllParts, TypedIs, typed_is, fit_is}
 use Rattle.wg_typing.specs.declared.part.Operands.{Operands}
@@ -43,10 +43,6 @@ raw_word t = picked (is_int t || same_type t truth_type)
     picked : (b : Bool) → is_word (cond b (type.Scalar scalar.Int) uint_type) ≡ true
     picked true = refl
     picked false = refl
-
-pub if_there_is : {A B : Type 0} (p : A → Type 0) (q : Option B → Type 0) (f : A → Option B) (o : Option A) → If p o → q None → ((a : A) → p a → If (λ b. q (Some b)) (f a)) → If q (if_there f o)
-if_there_is p q f None h n k = n
-if_there_is p q f (Some a) h n k = if_then (λ b. q (Some b)) q (f a) _ (k a h) (λ b i. i)
 
 module _ (room : Room) where
   pub record OperandsAre (o : Operands Part) : Type 0 where

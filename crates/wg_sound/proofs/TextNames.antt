@@ -1,5 +1,5 @@
 -- Texts that grow, what their names stand for, and their limits.
-use Rattle.std.proofs.Common.{◌≡◌, ◌<◌, ◌≤◌, ◌+◌, ℕ, suc, Bool, true, false, cond, List, [], ◌∷◌, ◌++◌, length, Option, Some, None, refl, sym, ap, ◌∙◌, subst, arith}
+use Rattle.std.proofs.Common.{◌≡◌, ◌+◌, ℕ, suc, Bool, true, false, cond, List, [], ◌∷◌, ◌++◌, length, Option, Some, None, refl, sym, ap, ◌∙◌, subst, arith}
 use Rattle.std.specs.Prelude.{nat_lt, slice_get}
 use Rattle.std.specs.Option.{unwrap_or}
 use Rattle.std.proofs.lemmas.Grind.{common_steps}
@@ -18,7 +18,7 @@ use Rattle.wg_typed.specs.Constants.{const_scalar, const_number}
 use Rattle.wg_typed.specs.Layout.{words_of, NamesBelow}
 use Rattle.wg_sound.specs.StandingTypes.{are_words, names_below}
 use Rattle.wg_sound.specs.Room.{is_node}
-use Rattle.wg_sound.specs.Tests.{test, every}
+use Rattle.wg_facts.specs.Tests.{test, every}
 use Rattle.wg_tree.specs.declared.expr.Named.{Named}
 use Rattle.wg_tree.specs.declared.item.Item.{Item}
 use Rattle.wg_tree.specs.declared.item.Item.TheVariants as item
@@ -36,9 +36,9 @@ use Rattle.wg_typing.specs.declared.scope.FormalParameter.{FormalParameter}
 use Rattle.wg_typing.specs.declared.scope.Meant.{Meant}
 use Rattle.wg_typing.specs.declared.scope.Meant.TheVariants as meant
 use Rattle.wg_typing.specs.declared.scope.Object.TheVariants as object
-use Rattle.wg_sound.proofs.Basics.{all_first, and_then, If, and_left, and_right, some_value}
+use Rattle.wg_facts.proofs.Basics.{all_first, and_then, If, and_left, and_right, some_value, so_less}
 use Rattle.wg_sound.proofs.Meanings.{Agrees, AllAgree}
-use Rattle.wg_sound.proofs.Lists.{nothing_more, joined}
+use Rattle.wg_facts.proofs.Lists.{nothing_more, joined}
 use Rattle.wg_sound.proofs.Sizes.{less_longer, StructBelow, All, words_same}
 use Rattle.wg_typing.specs.Named.{is_among}
 use Rattle.std.specs.Prelude.{sum_by}
@@ -173,16 +173,13 @@ structs_of_text t n meant.Broken h = tt
 
 -- ---- structs
 
-pub true_less : (m n : ℕ) → nat_lt m n ≡ true → m < n
-true_less m n e = grind (arith, common_steps, e)
-
 pub below_is : (n : ℕ) (t : TypeTree) → names_below n t ≡ true → NamesBelow n t
 below_is n (type.Scalar of) h = tt
 below_is n (type.Vector of size) h = tt
-below_is n (type.Struct number) h = true_less number n h
+below_is n (type.Struct number) h = so_less number n h
 below_is n (type.Array (element.Scalar of) size) h = tt
 below_is n (type.Array (element.Vector of count) size) h = tt
-below_is n (type.Array (element.Struct number) size) h = true_less number n h
+below_is n (type.Array (element.Struct number) size) h = so_less number n h
 
 pub all_below : (n : ℕ) (types : List TypeTree) → every (names_below n) types ≡ true → Each (NamesBelow n) types
 all_below n [] h = tt
@@ -264,6 +261,3 @@ all_words structs [] xs e = ap (sum_by (λ (s : TypedShared). words_of structs s
 all_words structs (o ∷ os) xs e =
     let f = all_first o os xs e in
     ap (λ n. shared_size structs o + n) (all_words structs os f.2.0 f.2.1) ∙ ap (λ x. shared_size structs x + sum_by (λ (s : TypedShared). words_of structs s.of) f.2.0) f.1 ∙ sym (sum_by-cons (λ (s : TypedShared). words_of structs s.of) f.0 f.2.0) ∙ ap (sum_by (λ (s : TypedShared). words_of structs s.of)) (sym f.2.2)
-
-pub at_most : (m n : ℕ) → nat_lt m n ≡ false → n ≤ m
-at_most m n e = grind (arith, common_steps, e)

@@ -25,7 +25,7 @@ use Rattle.wg_typed.specs.Constants.{const_value}
 use Rattle.wg_typed.specs.Layout.{words_of, types_of, field_types}
 use Rattle.wg_sound.specs.Sound.{buffer_stands, IsSoundFunction, IsSound}
 use Rattle.wg_sound.specs.StandingTypes.{names_below, stands_in}
-use Rattle.wg_sound.specs.Tests.{if_any, every}
+use Rattle.wg_facts.specs.Tests.{if_any, every}
 use Rattle.wg_tree.specs.declared.expr.Expr.{Expr}
 use Rattle.wg_tree.specs.declared.expr.Named.{Named}
 use Rattle.wg_tree.specs.declared.expr.TypeName.{TypeName}
@@ -54,18 +54,18 @@ use Rattle.wg_typing.specs.declared.scope.FormalParameter.{FormalParameter}
 use Rattle.wg_typing.specs.declared.scope.Meant.{Meant}
 use Rattle.wg_typing.specs.declared.scope.Meant.TheVariants as meant
 use Rattle.wg_typing.specs.declared.scope.Object.TheVariants as object
-use Rattle.wg_sound.proofs.Basics.{and_then, If, both, some_value, if_then, if_was, if_where, then_some, type_self, test_some}
-use Rattle.wg_sound.proofs.Lists.{nothing_more, joined, at_end, still, at_end_of, pushed, every_all, all_at}
+use Rattle.wg_facts.proofs.Basics.{and_then, If, both, some_value, if_then, if_was, if_where, then_some, type_self, test_some, so_less, at_most}
+use Rattle.wg_facts.proofs.Lists.{nothing_more, joined, at_end, still, at_end_of, pushed, every_all, all_at}
 use Rattle.wg_sound.proofs.Sizes.{StructBelow, All, all_push, all_so, words_same, TypesStand, TypeStands, named_stands, declared_stands}
 use Rattle.wg_sound.proofs.Objects.{within}
 use Rattle.wg_typing.specs.Named.{is_among}
 use Rattle.wg_typing.specs.declared.fault.TypingRule.TheVariants.{LimitPassed}
-use Rattle.wg_sound.proofs.Sited.{well_only, is_false, Well, well_left, well_right}
+use Rattle.wg_facts.proofs.Sited.{well_only, is_false, Well, well_left, well_right}
 use Rattle.wg_typing.specs.declared.so_far.FunctionHead.{FunctionHead}
 use Rattle.wg_sound.proofs.Bodies.{NamesBefore, typed_function_is}
-use Rattle.wg_sound.proofs.Basics.{every_more}
+use Rattle.wg_facts.proofs.Basics.{every_more}
 use Rattle.wg_typing.specs.declared.context.Around.TheVariants as surrounding
-use Rattle.wg_sound.proofs.TextNames.{TextGrows, declared_grows, items_grow, agree_all, less_self, one_function_more, one_struct_more, true_less, all_below, constant_agrees, or_broken, last_or, below_more, shared_more, shared_still, shared_longer, one_more_few, all_length, all_words, at_most, TextAgrees, SharedBelow}
+use Rattle.wg_sound.proofs.TextNames.{TextGrows, declared_grows, items_grow, agree_all, less_self, one_function_more, one_struct_more, all_below, constant_agrees, or_broken, last_or, below_more, shared_more, shared_still, shared_longer, one_more_few, all_length, all_words, TextAgrees, SharedBelow}
 
 module _ (t : Typed) where
   -- ---- the text in the end
@@ -343,7 +343,7 @@ module _ (t : Typed) where
   none_there n a e = absurd (cc)
 
   nothing_below : {B : Type 0} (n : ℕ) → nat_lt n 0 ≡ true → B
-  nothing_below n e = let l : n < 0 = true_less n 0 e in absurd (omega (arith, l))
+  nothing_below n e = let l : n < 0 = so_less n 0 e in absurd (omega (arith, l))
 
   begins : TextIs no_text
   begins = record { names = tt; below = tt; order = λ n s e. none_there n s e; fields = λ n s e. none_there n s e; sizes = λ n e. nothing_below n e; buffers = refl; shared = refl; few_buffers = refl; few_words = refl; shared_below = tt; functions = λ n o e. none_there n o e }

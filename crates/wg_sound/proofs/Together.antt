@@ -4,7 +4,7 @@ use Rattle.std.specs.Prelude.{◌&&◌, ◌||◌, nat_lt}
 use Rattle.wg_typed.specs.Uniform.{UniformSetting, is_uniform}
 use Rattle.wg_typing.specs.RulesCollective.{in_collective_blocks, in_a_loop, takes_collective, is_direct}
 use Rattle.wg_typing.specs.TypingMarks.{MarkedStmt, any_holds, all_here, plain_stmt, else_holds, else_block, else_branch, is_collective_if, mark_step, marked_stmt}
-use Rattle.wg_sound.specs.Tests.{if_any, every}
+use Rattle.wg_facts.specs.Tests.{if_any, every}
 use Rattle.wg_sound.specs.Placement.{in_body, Where, in_block, in_branch, in_loop, takes, declares_last, begins_last, Placed, plain, is_chosen, placed}
 use Rattle.wg_typed.specs.declared.typed.TypedEntry.{TypedEntry}
 use Rattle.wg_typed.specs.declared.typed_expr.TypedExpr.{TypedExpr}
@@ -16,8 +16,8 @@ use Rattle.wg_typing.specs.declared.context.Around.TheVariants as surrounding
 use Rattle.wg_typing.specs.declared.event.Region.{Region}
 use Rattle.wg_typing.specs.declared.event.Region.TheVariants as region
 use Rattle.wg_sound.proofs.Allowed.{Allowed, alone, branch_of, allowed_step, allowed}
-use Rattle.wg_sound.proofs.Basics.{and_left, and_right, both, or_left}
-use Rattle.wg_sound.proofs.Lists.{nothing_more, joined}
+use Rattle.wg_facts.proofs.Basics.{and_left, and_right, both, or_left}
+use Rattle.wg_facts.proofs.Lists.{nothing_more, joined}
 use Rattle.wg_sound.proofs.Placements.{others_placed, placed_Block, placed_Empty, placed_Declare, placed_Request, placed_Increment, placed_Complete, placed_Barrier, placed_Step, placed_Break, placed_Continue, placed_Return, placed_If, placed_While, placed_For}
 
 not_direct : (path : List Region) (r : Region) → is_direct (path ++ r ∷ []) ≡ false

@@ -15,7 +15,7 @@ use Rattle.wg_typing.specs.TypingHandle.{handle_record, handle_request, handle_t
 use Rattle.wg_typing.specs.TypingLoop.{start_after, start_sites, start_tree, in_header}
 use Rattle.wg_typing.specs.TypingStep.{step_did, own_handle, act_stmt, step_stmt, header_trees, all_steps, maybe_steps}
 use Rattle.wg_typing.specs.TypingStmt.{Walk, block_after, block_sites, block_trees, branch_after, else_after, else_sites, tree_in, returned_tree, stmt_walked, walked}
-use Rattle.wg_sound.specs.Tests.{if_any, every}
+use Rattle.wg_facts.specs.Tests.{if_any, every}
 use Rattle.wg_sound.specs.Room.{Room}
 use Rattle.wg_sound.specs.SoundStep.{sound_of, start_sound}
 use Rattle.wg_sound.specs.SoundStmt.{returns, stmt_sound}
@@ -33,12 +33,12 @@ use Rattle.wg_typed.specs.declared.typed_stmt.TypedStmt.{TypedStmt}
 use Rattle.wg_typed.specs.declared.typed_stmt.TypedStmt.TheVariants as t
 use Rattle.wg_typing.specs.declared.scope.Act.{Act}
 use Rattle.wg_typing.specs.declared.scope.Act.TheVariants as act
-use Rattle.wg_sound.proofs.Basics.{If, both, some_value, if_then, if_where}
+use Rattle.wg_facts.proofs.Basics.{If, both, some_value, if_then, if_where}
 use Rattle.wg_sound.proofs.Meanings.{ActIs}
 use Rattle.wg_sound.proofs.Growing.{Grows, grows_self, grows_then, once_grows, once_new, grows_leave, grows_same, Ends, ends_before, ends_inside, ends_same}
 use Rattle.wg_sound.proofs.Declarations.{Stands, stands_enter, stands_loop, stands_leave, fit_in_is, maybe_fit_is, DeclaratorsAre, declarators_grow, declaration_are}
 use Rattle.wg_sound.proofs.Requests.{asked_is, handle_grows, handle_keeps, request_stmt_is}
-use Rattle.wg_sound.proofs.Sited.{Well, well_left, well_right, well_within, well_only, is_false}
+use Rattle.wg_facts.proofs.Sited.{Well, well_left, well_right, well_within, well_only, is_false}
 use Rattle.wg_sound.proofs.Statements.{StmtIs, does, sound_Block, sound_Empty, sound_Declare, sound_Increment, sound_Complete, sound_Barrier, sound_Step, sound_Break, sound_Continue, sound_Return, sound_While, sound_For, others_sound, sound_If}
 use Rattle.wg_sound.proofs.Stepped.{DidIs, did_is, StepsAre, header_is}
 use Rattle.wg_typing.specs.declared.context.GivesBack.TheVariants as gives_back

@@ -13,7 +13,7 @@ use Rattle.wg_typing.specs.TypingCallee.{builtins, builtin_if, callee_of, callee
 use Rattle.wg_typing.specs.TypingCalls.{builtin_value, call_value}
 use Rattle.wg_typing.specs.TypingExpr.{ExprForm, part_of, layer_value, expr_seen, form_seen, link_seen, expr_form, part}
 use Rattle.wg_sound.specs.Room.{is_node, Room}
-use Rattle.wg_sound.specs.Tests.{if_any}
+use Rattle.wg_facts.specs.Tests.{if_any}
 use Rattle.wg_tree.specs.declared.expr.Expr.{Expr, roll-Expr, fold-roll-Expr, ind-Expr, map-Expr}
 use Rattle.wg_tree.specs.declared.expr.Expr.TheOpen.{Expr-F, Form-F}
 use Rattle.wg_tree.specs.declared.expr.Form.{Form, fold-Form, roll-Form, fold-roll-Form, map-Form}
@@ -22,7 +22,7 @@ use Rattle.wg_typed.specs.declared.typed_expr.TypedKind.TheVariants as tree
 use Rattle.wg_typing.specs.declared.scope.Meant.{Meant}
 use Rattle.wg_typing.specs.declared.scope.Meant.TheVariants as meant
 use Rattle.wg_typing.specs.declared.scope.Value.{Value}
-use Rattle.wg_sound.proofs.Basics.{and_then, If, both, not_false, if_was}
+use Rattle.wg_facts.proofs.Basics.{and_then, If, both, not_false, if_was}
 use Rattle.wg_sound.proofs.Layered.{made_fixed, held_Levels}
 use Rattle.wg_sound.proofs.Meanings.{ValueIs, PartIs, AllParts, FunctionIs, Agrees, AllAgree, look_agrees}
 use Rattle.wg_sound.proofs.Operated.{number_is, truth_is, named_is, zeros_is, prefix_is, cast_is, choice_is, AllOperands, chain_is}

@@ -1,3 +1,4 @@
+pub mod Earlier
 pub mod Placement
 pub mod Room
 pub mod Sound
@@ -8,4 +9,3 @@ pub mod SoundOperators
 pub mod SoundStep
 pub mod SoundStmt
 pub mod StandingTypes
-pub mod Tests

@@ -1,7 +1,7 @@
 -- Where in the body of a function collective statements stand: a fold over one layer of a typed statement.
 use Rattle.std.specs.Prelude.{nat_lt, Bool, true, false, not, ◌&&◌, ◌||◌, if◌then◌else◌, List, [], ◌∷◌, map, Option, Some, None}
 use Rattle.wg_typed.specs.Uniform.{UniformSetting, is_uniform, is_finished, setting_in}
-use Rattle.wg_sound.specs.Tests.{test, if_any, every}
+use Rattle.wg_facts.specs.Tests.{test, if_any, every}
 use Rattle.wg_typed.specs.declared.typed.TypedEntry.{TypedEntry}
 use Rattle.wg_typed.specs.declared.typed.TypedFunction.{TypedFunction}
 use Rattle.wg_typed.specs.declared.typed_expr.TypedExpr.{TypedExpr}

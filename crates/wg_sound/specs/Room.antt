@@ -3,7 +3,7 @@ use Rattle.std.specs.Prelude.{ℕ, Bool, true, false, ◌&&◌, if◌then◌else
 use Rattle.wg_words.specs.Maybe.{◌>>=◌}
 use Rattle.wg_typing.specs.Conversions.{same_type}
 use Rattle.wg_typing.specs.TypingParameter.{Role, an_input, an_output, no_role, role_of, is_marked}
-use Rattle.wg_sound.specs.Tests.{test}
+use Rattle.wg_facts.specs.Tests.{test}
 use Rattle.wg_typed.specs.declared.types.TypeTree.{TypeTree}
 use Rattle.wg_typed.specs.declared.types.TypeTree.TheVariants as type
 use Rattle.wg_typed.specs.declared.typed.Typed.{Typed}

@@ -6,7 +6,7 @@ use Rattle.wg_typing.specs.TypingDeclared.{type_limit}
 use Rattle.wg_typing.specs.TypingBuffer.{buffer_limit}
 use Rattle.wg_typing.specs.TypingShared.{shared_limit}
 use Rattle.wg_typing.specs.TypingParameter.{output_limit, is_input, is_output, list_first, numbered}
-use Rattle.wg_sound.specs.Tests.{test, if_any, every}
+use Rattle.wg_facts.specs.Tests.{test, if_any, every}
 use Rattle.wg_sound.specs.StandingTypes.{stands_in}
 use Rattle.wg_sound.specs.Room.{Room, is_node, outputs_of, output_at}
 use Rattle.wg_sound.specs.Placement.{body_placed}

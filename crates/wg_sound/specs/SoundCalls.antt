@@ -5,7 +5,7 @@ use Rattle.wg_typed.specs.Directions.{direction_of}
 use Rattle.wg_typing.specs.TypingInterlocked.{is_fixed}
 use Rattle.wg_typing.specs.TypingIntrinsic.{Reckons, in_common, in_uint, to_one_truth, in_truths, choosing}
 use Rattle.wg_typing.specs.TypingConstructor.{components}
-use Rattle.wg_sound.specs.Tests.{test, every}
+use Rattle.wg_facts.specs.Tests.{test, every}
 use Rattle.wg_sound.specs.Room.{Room, is_node, is_value_of}
 use Rattle.wg_sound.specs.SoundForms.{Shown, is_a}
 use Rattle.wg_sound.specs.SoundOperators.{is_counted, is_truths, truths_like}

@@ -4,7 +4,7 @@ use Rattle.wg_typing.specs.Conversions.{same_type, fits, is_number, truth_type, 
 use Rattle.wg_typing.specs.TypingHandle.{same_truth}
 use Rattle.wg_typing.specs.TypingIntrinsic.{reckons, arity_of}
 use Rattle.wg_typed.specs.Layout.{words_of}
-use Rattle.wg_sound.specs.Tests.{test}
+use Rattle.wg_facts.specs.Tests.{test}
 use Rattle.wg_sound.specs.StandingTypes.{names_below, is_struct, are_words}
 use Rattle.wg_sound.specs.Room.{Room, Output, Input, is_node, output_at, input_in, handle_record, has_variable, has_shared, buffer_type, holds_elements, is_raw, element_standing, input_standing, is_record}
 use Rattle.wg_sound.specs.SoundForms.{Shown, Held, Form, held, value_held, is_a, is_index, access_step, all_follow, after_forms}

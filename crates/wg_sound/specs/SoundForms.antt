@@ -3,7 +3,7 @@ use Rattle.std.specs.Prelude.{ℕ, nat_lt, Bool, true, false, ◌&&◌, if◌the
 use Rattle.wg_words.specs.Maybe.{◌>>=◌}
 use Rattle.wg_typing.specs.Conversions.{same_type, uint_type}
 use Rattle.wg_typed.specs.Layout.{field_types, element_type}
-use Rattle.wg_sound.specs.Tests.{test, if_any, every}
+use Rattle.wg_facts.specs.Tests.{test, if_any, every}
 use Rattle.wg_sound.specs.Room.{Room}
 use Rattle.wg_tree.specs.declared.expr.Scalar.{Scalar}
 use Rattle.wg_typed.specs.declared.types.TypeTree.{TypeTree}

@@ -3,7 +3,7 @@ use Rattle.std.specs.Prelude.{ℕ, ◌==◌, Bool, true, false, not, ◌&&◌, L
 use Rattle.wg_words.specs.Maybe.{◌>>=◌}
 use Rattle.wg_typing.specs.Maybe.{where_true}
 use Rattle.wg_typing.specs.Conversions.{numbers, type_of, same_scalar, same_type, fits, truths, truth_type, Class, arithmetic, shift, comparison, logic, class_of}
-use Rattle.wg_sound.specs.Tests.{test}
+use Rattle.wg_facts.specs.Tests.{test}
 use Rattle.wg_sound.specs.SoundForms.{Shown, Held, Form}
 use Rattle.wg_tree.specs.declared.expr.Scalar.TheVariants as scalar
 use Rattle.wg_tree.specs.declared.expr.PrefixOperator.{PrefixOperator}

@@ -4,7 +4,7 @@ use Rattle.wg_typing.specs.Conversions.{same_type, fits, is_number, is_word, tru
 use Rattle.wg_typing.specs.TypingHandle.{same_truth}
 use Rattle.wg_typing.specs.TypingInterlocked.{is_fixed, is_memory, is_int}
 use Rattle.wg_typed.specs.Uniform.{is_finished}
-use Rattle.wg_sound.specs.Tests.{test, if_any, every}
+use Rattle.wg_facts.specs.Tests.{test, if_any, every}
 use Rattle.wg_sound.specs.Room.{Room, input_in, has_variable, buffer_type, is_writable_raw, tells_last}
 use Rattle.wg_sound.specs.SoundForms.{Shown, is_a}
 use Rattle.wg_sound.specs.SoundOperators.{operates, result_of}

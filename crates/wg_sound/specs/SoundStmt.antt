@@ -2,7 +2,7 @@
 use Rattle.std.specs.Prelude.{ℕ, ◌==◌, nat_lt, Bool, true, false, ◌&&◌, List, length, map, slice_get, Option, Some, None, is_some}
 use Rattle.wg_typing.specs.Conversions.{truth_type, uint_type}
 use Rattle.wg_typing.specs.TypingHandle.{same_truth}
-use Rattle.wg_sound.specs.Tests.{test, if_any, every}
+use Rattle.wg_facts.specs.Tests.{test, if_any, every}
 use Rattle.wg_sound.specs.Room.{Room, Output, is_node, output_at}
 use Rattle.wg_sound.specs.SoundExpr.{has_output, shown_if}
 use Rattle.wg_sound.specs.SoundStep.{sound_of, step_sound, steps_sound, declares, start_sound}

@@ -4,6 +4,6 @@
 mod law;
 
 pub use law::{
-    buffers_are_few, fields_lie_within, literals_fit, outputs_are_few, shared_words_are_few,
-    typed_is_sound, types_stand,
+    buffers_are_few, fields_by_first_place, fields_lie_within, literals_fit, outputs_are_few,
+    shared_words_are_few, shared_words_by_total, typed_is_sound, types_stand,
 };

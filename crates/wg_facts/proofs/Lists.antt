@@ -1,9 +1,9 @@
 -- Lists that grow, and what stands at their ends.
-use Rattle.std.proofs.Common.{◌≡◌, ℕ, zero, suc, Bool, true, List, [], ◌∷◌, ◌++◌, length, Option, Some, refl, sym, ap, ◌∙◌, subst}
+use Rattle.std.proofs.Common.{◌≡◌, ℕ, zero, suc, Bool, true, List, [], ◌∷◌, ◌++◌, length, Option, Some, refl, sym, ap, ◌∙◌, subst, nat_lt, ◌<◌, arith}
 use Rattle.std.specs.Prelude.{slice_get}
 use Rattle.wg_typing.specs.Maybe.{all_of}
-use Rattle.wg_sound.specs.Tests.{if_any, every}
-use Rattle.wg_sound.proofs.Basics.{and_left, and_right, both, some_value, all_first}
+use Rattle.wg_facts.specs.Tests.{if_any, every}
+use Rattle.wg_facts.proofs.Basics.{and_left, and_right, both, some_value, all_first, less_so, so_less}
 
 pub nothing_more : {A : Type 0} (xs : List A) → xs ≡ xs ++ []
 nothing_more [] = refl
@@ -51,3 +51,8 @@ all_at (o ∷ os) xs zero x e h =
 all_at (o ∷ os) xs (suc n) x e h =
     let f = all_first o os xs e in
     all_at os f.2.0 n x f.2.1 (subst (λ ys. slice_get ys (suc n) ≡ Some x) f.2.2 h)
+
+pub front : {A : Type 0} (xs ys : List A) (n : ℕ) → nat_lt n (length xs) ≡ true → slice_get (xs ++ ys) n ≡ slice_get xs n
+front [] ys n h = let l : n < 0 = so_less n 0 h in absurd (omega (arith, l))
+front (x ∷ xs) ys zero h = refl
+front (x ∷ xs) ys (suc n) h = let l : suc n < length (x ∷ xs) = so_less (suc n) (length (x ∷ xs)) h in front xs ys n (less_so n (length xs) (omega (arith, l)))

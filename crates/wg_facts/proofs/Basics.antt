@@ -1,11 +1,11 @@
 -- Equal types, truths, and what holds where it is there.
-use Rattle.std.proofs.Common.{◌≡◌, ℕ, Bool, true, false, not, cond, List, [], ◌∷◌, ◌++◌, Option, Some, None, refl, sym, ap, ◌∙◌, subst, arith}
+use Rattle.std.proofs.Common.{◌≡◌, ℕ, Bool, true, false, not, cond, List, [], ◌∷◌, ◌++◌, Option, Some, None, refl, sym, ap, ◌∙◌, subst, arith, ◌<◌, ◌≤◌, nat_lt}
 use Rattle.std.specs.Prelude.{◌&&◌, ◌||◌, ◌==◌}
 use Rattle.std.proofs.lemmas.Grind.{common_steps}
 use Rattle.wg_words.specs.Maybe.{◌>>=◌}
-use Rattle.wg_typing.specs.Maybe.{where_true, all_of}
+use Rattle.wg_typing.specs.Maybe.{where_true, all_of, if_there}
 use Rattle.wg_typing.specs.Conversions.{scalar_number, same_scalar, same_element, same_type}
-use Rattle.wg_sound.specs.Tests.{test, every}
+use Rattle.wg_facts.specs.Tests.{test, every}
 use Rattle.wg_tree.specs.declared.expr.Scalar.{Scalar}
 use Rattle.wg_tree.specs.declared.expr.Scalar.TheVariants as scalar
 use Rattle.wg_typed.specs.declared.types.ElementType.{ElementType}
@@ -171,3 +171,29 @@ test_some f o a e h = ap (test f) e ∙ h
 pub every_more : {A : Type 0} (f : A → Bool) (xs ys : List A) → every f xs ≡ true → every f ys ≡ true → every f (xs ++ ys) ≡ true
 every_more f [] ys h k = k
 every_more f (x ∷ xs) ys h k = both (and_left (f x) _ h) (every_more f xs ys (and_right (f x) _ h) k)
+
+-- ---- smaller numbers
+
+pub less_so : (m n : ℕ) → m < n → nat_lt m n ≡ true
+less_so m n h = grind (arith, common_steps, h)
+
+pub so_less : (m n : ℕ) → nat_lt m n ≡ true → m < n
+so_less m n e = grind (arith, common_steps, e)
+
+-- one that is not above
+pub at_most : (m n : ℕ) → nat_lt m n ≡ false → n ≤ m
+at_most m n e = grind (arith, common_steps, e)
+
+-- ---- what follows from tests
+
+pub test_so : {A : Type 0} (f : A → Bool) (o : Option A) → test f o ≡ true → (a : A) × (o ≡ Some a) × (f a ≡ true)
+test_so f None e = absurd (cc)
+test_so f (Some a) e = (a, refl, e)
+
+pub either_so : (a b : Bool) (p : Type 0) → (a || b) ≡ true → (a ≡ true → p) → (b ≡ true → p) → p
+either_so true b p e f g = f refl
+either_so false b p e f g = g e
+
+pub if_there_is : {A B : Type 0} (p : A → Type 0) (q : Option B → Type 0) (f : A → Option B) (o : Option A) → If p o → q None → ((a : A) → p a → If (λ b. q (Some b)) (f a)) → If q (if_there f o)
+if_there_is p q f None h n k = n
+if_there_is p q f (Some a) h n k = if_then (λ b. q (Some b)) q (f a) _ (k a h) (λ b i. i)

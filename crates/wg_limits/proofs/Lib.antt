@@ -1,0 +1,12 @@
+pub mod Parts
+pub mod Operators
+pub mod Objects
+pub mod Exprs
+pub mod Steps
+pub mod Stmts
+pub mod Marks
+pub mod Depths
+pub mod Functions
+pub mod Nested
+pub mod Chains
+pub mod Small

@@ -1,0 +1,4 @@
+pub mod Yields
+pub mod Exprs
+pub mod Stmts
+pub mod Items

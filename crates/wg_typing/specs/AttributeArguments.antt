@@ -5,12 +5,14 @@ use Prim.Native.String.{String}
 use Rattle.std.specs.Str.{bytes_eq}
 use Rattle.wg_words.specs.Maybe.{◌>>=◌}
 use Rattle.wg_typing.specs.Maybe.{where_true}
-use Rattle.wg_typing.specs.Named.{at_name, is_called}
+use Rattle.wg_typing.specs.Named.{at_name, is_same_name, is_called}
 use Rattle.wg_typed.specs.declared.types.ConstValue.{ConstValue}
 use Rattle.wg_typed.specs.declared.typed_stmt.ArgumentValue.{ArgumentValue}
 use Rattle.wg_typed.specs.declared.typed_stmt.ArgumentValue.TheVariants as argument
 use Rattle.wg_typed.specs.declared.typed_stmt.TypedArgument.{TypedArgument}
 use Rattle.wg_typed.specs.declared.typed_stmt.TypedAttribute.{TypedAttribute}
+use Rattle.wg_typing.specs.declared.attribute.Mode.{Mode}
+use Rattle.wg_typing.specs.declared.attribute.Mode.TheVariants.{Broadcasting, Coalescing, Thread}
 
 abbrev pub is_text : String → ArgumentValue → Bool
 is_text word (argument.Number v) = false
@@ -28,9 +30,12 @@ is_entry [] = false
 is_entry (a ∷ rest) = (is_called "Shader" a.name.name && is_one_text "node" a.arguments) || is_entry rest
 
 -- the first attribute of a name
+abbrev pub first_named : List ℕ → List TypedAttribute → Option TypedAttribute
+first_named name [] = None
+first_named name (a ∷ rest) = if is_same_name name a.name.name then Some a else first_named name rest
+
 abbrev pub first_called : String → List TypedAttribute → Option TypedAttribute
-first_called word [] = None
-first_called word (a ∷ rest) = if is_called word a.name.name then Some a else first_called word rest
+first_called word attributes = first_named (codes word) attributes
 
 -- an `int` or a `uint`
 abbrev pub is_narrow : ConstValue → Bool
@@ -65,13 +70,8 @@ lanes_of attributes = one_if_none (first_called "NumThreads" attributes >>= (λ 
 
 -- ---- the launch mode
 
-pub data Mode : Type 0 where
-  broadcasting : Mode
-  coalescing : Mode
-  thread : Mode
-
 abbrev pub mode_names : List (String × Mode)
-mode_names = ("broadcasting", broadcasting) ∷ ("coalescing", coalescing) ∷ ("thread", thread) ∷ []
+mode_names = ("broadcasting", Broadcasting) ∷ ("coalescing", Coalescing) ∷ ("thread", Thread) ∷ []
 
 abbrev pub named_by : ArgumentValue → Option Mode
 named_by (argument.Number v) = None
@@ -98,16 +98,16 @@ in_mode test None = false
 in_mode test (Some mode) = test mode
 
 abbrev pub is_broadcasting : Mode → Bool
-is_broadcasting broadcasting = true
-is_broadcasting coalescing = false
-is_broadcasting thread = false
+is_broadcasting Broadcasting = true
+is_broadcasting Coalescing = false
+is_broadcasting Thread = false
 
 abbrev pub is_coalescing : Mode → Bool
-is_coalescing broadcasting = false
-is_coalescing coalescing = true
-is_coalescing thread = false
+is_coalescing Broadcasting = false
+is_coalescing Coalescing = true
+is_coalescing Thread = false
 
 abbrev pub is_thread : Mode → Bool
-is_thread broadcasting = false
-is_thread coalescing = false
-is_thread thread = true
+is_thread Broadcasting = false
+is_thread Coalescing = false
+is_thread Thread = true

@@ -4,14 +4,19 @@ use Rattle.wg_words.specs.declared.place.Place.{Place}
 use Rattle.wg_words.specs.Maybe.{◌>>=◌}
 use Rattle.wg_typing.specs.Maybe.{where_true}
 use Rattle.wg_words.specs.Characters.{is_identifier}
-use Rattle.wg_typing.specs.AttributeArguments.{Mode, mode_named, has, is_one_text, product, in_mode, is_thread, is_narrow}
-use Rattle.wg_typing.specs.AttributeSites.{AttributeSite, AtAttribute, AtNode, AtInput, AtOutput, AtValue, Position, on_struct, on_node, on_plain, on_input, on_output, on_output_array, on_value, on_branch, Own, Kind, a_value, an_input, an_output, a_handle, kind_of}
-use Rattle.wg_typing.specs.AttributeNames.{Name, shader, node_launch, num_threads, dispatch_grid, max_dispatch_grid, node_id, program_entry, max_recursion_depth, max_records, max_records_shared_with, node_array_size, allow_sparse_nodes, track_sharing, hint, standing}
+use Rattle.wg_typing.specs.AttributeArguments.{mode_named, has, is_one_text, product, in_mode, is_thread, is_narrow}
+use Rattle.wg_typing.specs.AttributeSites.{AttributeSite, AtAttribute, AtNode, AtInput, AtOutput, AtValue, Position, on_struct, on_node, on_plain, on_input, on_output, on_output_array, on_value, on_branch, Own, kind_of}
+use Rattle.wg_typing.specs.AttributeNames.{standing}
 use Rattle.wg_typing.specs.Sites.{at_if}
 use Rattle.wg_typed.specs.declared.typed.TypedParameter.{TypedParameter}
 use Rattle.wg_typed.specs.declared.typed_stmt.ArgumentValue.{ArgumentValue}
 use Rattle.wg_typed.specs.declared.typed_stmt.ArgumentValue.TheVariants as argument
 use Rattle.wg_typed.specs.declared.typed_stmt.TypedArgument.{TypedArgument}
+use Rattle.wg_typing.specs.declared.attribute.AttributeName.{AttributeName}
+use Rattle.wg_typing.specs.declared.attribute.AttributeName.TheVariants.{Shader, NodeLaunch, NumThreads, DispatchGrid, MaxDispatchGrid, NodeId, ProgramEntry, MaxRecursionDepth, MaxRecords, MaxRecordsSharedWith, NodeArraySize, AllowSparseNodes, TrackSharing, Hint}
+use Rattle.wg_typing.specs.declared.attribute.Mode.{Mode}
+use Rattle.wg_typing.specs.declared.attribute.ParameterKind.{ParameterKind}
+use Rattle.wg_typing.specs.declared.attribute.ParameterKind.TheVariants.{Value, Input, Output, Handle}
 
 abbrev pub is_nothing : List TypedArgument → Bool
 is_nothing [] = true
@@ -82,11 +87,11 @@ greatest_index (on_output_array here) = 0
 greatest_index on_value = 255
 greatest_index on_branch = 255
 
-abbrev pub is_output : Kind → Bool
-is_output (an_output array) = true
-is_output a_value = false
-is_output (an_input word) = false
-is_output a_handle = false
+abbrev pub is_output : ParameterKind → Bool
+is_output (Output array) = true
+is_output Value = false
+is_output (Input word) = false
+is_output Handle = false
 
 abbrev pub bounds_itself : Option TypedParameter → Bool
 bounds_itself None = false
@@ -130,23 +135,23 @@ is_hint (a ∷ []) = is_number a.value
 is_hint _ = false
 
 -- the arguments that an attribute may have at a position where it stands
-abbrev pub has_form : Position → Name → List TypedArgument → Bool
-has_form position shader arguments = is_one_text "node" arguments
-has_form position node_launch arguments = is_some (mode_named arguments)
-has_form position num_threads arguments = are_threads (mode_at position) (product arguments)
-has_form position dispatch_grid arguments = is_below 16777216 (grid_product arguments)
-has_form position max_dispatch_grid arguments = is_below 16777216 (grid_product arguments)
-has_form position node_id arguments = is_id (greatest_index position) arguments
-has_form position program_entry arguments = is_nothing arguments
-has_form position max_recursion_depth arguments = is_one_between 1 31 arguments
-has_form position max_records arguments = is_one_between 1 256 arguments
-has_form position max_records_shared_with arguments = is_partner position arguments
-has_form position node_array_size arguments = is_one_between 1 256 arguments
-has_form position allow_sparse_nodes arguments = is_nothing arguments
-has_form position track_sharing arguments = is_nothing arguments
-has_form position hint arguments = is_hint arguments
+abbrev pub has_form : Position → AttributeName → List TypedArgument → Bool
+has_form position Shader arguments = is_one_text "node" arguments
+has_form position NodeLaunch arguments = is_some (mode_named arguments)
+has_form position NumThreads arguments = are_threads (mode_at position) (product arguments)
+has_form position DispatchGrid arguments = is_below 16777216 (grid_product arguments)
+has_form position MaxDispatchGrid arguments = is_below 16777216 (grid_product arguments)
+has_form position NodeId arguments = is_id (greatest_index position) arguments
+has_form position ProgramEntry arguments = is_nothing arguments
+has_form position MaxRecursionDepth arguments = is_one_between 1 31 arguments
+has_form position MaxRecords arguments = is_one_between 1 256 arguments
+has_form position MaxRecordsSharedWith arguments = is_partner position arguments
+has_form position NodeArraySize arguments = is_one_between 1 256 arguments
+has_form position AllowSparseNodes arguments = is_nothing arguments
+has_form position TrackSharing arguments = is_nothing arguments
+has_form position Hint arguments = is_hint arguments
 
-abbrev pub is_out_of_form : Position → List TypedArgument → Option Name → Bool
+abbrev pub is_out_of_form : Position → List TypedArgument → Option AttributeName → Bool
 is_out_of_form position arguments None = false
 is_out_of_form position arguments (Some name) = not (has_form position name arguments)
 

@@ -3,7 +3,8 @@
 use Rattle.std.specs.Prelude.{ℕ, ◌+◌, Bool, true, false, if◌then◌else◌, List, [], ◌∷◌, ◌++◌, map, slice_get, Option, Some, None, unwrap_or}
 use Rattle.wg_typing.specs.Maybe.{where_true}
 use Rattle.wg_typing.specs.Sites.{Sites, nowhere, only, ◌&◌, all_sites}
-use Rattle.wg_typing.specs.AttributeArguments.{Mode, mode_of, is_entry}
+use Rattle.wg_typing.specs.AttributeArguments.{mode_of, is_entry}
+use Rattle.wg_typing.specs.declared.attribute.Mode.{Mode}
 use Rattle.wg_tree.specs.declared.stmt.ObjectWord.{ObjectWord}
 use Rattle.wg_tree.specs.declared.stmt.ObjectWord.TheVariants as object
 use Rattle.wg_typed.specs.declared.typed.Typed.{Typed}
@@ -17,6 +18,8 @@ use Rattle.wg_typed.specs.declared.typed_stmt.TypedAttribute.{TypedAttribute}
 use Rattle.wg_typed.specs.declared.typed_stmt.TypedStmt.{TypedStmt}
 use Rattle.wg_typed.specs.declared.typed_stmt.TypedStmt.TheFolds.{fold-TypedStmt}
 use Rattle.wg_typed.specs.declared.typed_stmt.TypedStmt.TheOpen.{TypedStmt-F}
+use Rattle.wg_typing.specs.declared.attribute.ParameterKind.{ParameterKind}
+use Rattle.wg_typing.specs.declared.attribute.ParameterKind.TheVariants.{Value, Input, Output, Handle}
 
 -- the parameters of a node, and the number of the one that is meant
 pub record Own : Type 0 where
@@ -52,30 +55,23 @@ pub data AttributeSite : Type 0 where
 
 -- ---- kinds of parameters
 
-pub data Kind : Type 0 where
-  a_value : Kind
-  an_input : ObjectWord → Kind
-  an_output : Bool → Kind
-  -- a handle is no parameter, which the grammar refuses
-  a_handle : Kind
+abbrev pub object_kind : ObjectWord → ParameterKind
+object_kind object.DispatchNodeInputRecord = Input object.DispatchNodeInputRecord
+object_kind object.RwDispatchNodeInputRecord = Input object.RwDispatchNodeInputRecord
+object_kind object.GroupNodeInputRecords = Input object.GroupNodeInputRecords
+object_kind object.RwGroupNodeInputRecords = Input object.RwGroupNodeInputRecords
+object_kind object.ThreadNodeInputRecord = Input object.ThreadNodeInputRecord
+object_kind object.RwThreadNodeInputRecord = Input object.RwThreadNodeInputRecord
+object_kind object.EmptyNodeInput = Input object.EmptyNodeInput
+object_kind object.NodeOutput = Output false
+object_kind object.NodeOutputArray = Output true
+object_kind object.EmptyNodeOutput = Output false
+object_kind object.EmptyNodeOutputArray = Output true
+object_kind object.ThreadNodeOutputRecords = Handle
+object_kind object.GroupNodeOutputRecords = Handle
 
-abbrev pub object_kind : ObjectWord → Kind
-object_kind object.DispatchNodeInputRecord = an_input object.DispatchNodeInputRecord
-object_kind object.RwDispatchNodeInputRecord = an_input object.RwDispatchNodeInputRecord
-object_kind object.GroupNodeInputRecords = an_input object.GroupNodeInputRecords
-object_kind object.RwGroupNodeInputRecords = an_input object.RwGroupNodeInputRecords
-object_kind object.ThreadNodeInputRecord = an_input object.ThreadNodeInputRecord
-object_kind object.RwThreadNodeInputRecord = an_input object.RwThreadNodeInputRecord
-object_kind object.EmptyNodeInput = an_input object.EmptyNodeInput
-object_kind object.NodeOutput = an_output false
-object_kind object.NodeOutputArray = an_output true
-object_kind object.EmptyNodeOutput = an_output false
-object_kind object.EmptyNodeOutputArray = an_output true
-object_kind object.ThreadNodeOutputRecords = a_handle
-object_kind object.GroupNodeOutputRecords = a_handle
-
-abbrev pub kind_of : TypedParameterType → Kind
-kind_of (parameter_type.Value of) = a_value
+abbrev pub kind_of : TypedParameterType → ParameterKind
+kind_of (parameter_type.Value of) = Value
 kind_of (parameter_type.Object place word record_type) = object_kind word
 
 -- ---- the fields of a node's input record
@@ -88,11 +84,11 @@ abbrev pub fields_of : List TypedStruct → Option ℕ → List TypedField
 fields_of structs None = []
 fields_of structs (Some number) = fields_at (slice_get structs number)
 
-abbrev pub is_input : Kind → Bool
-is_input a_value = false
-is_input (an_input word) = true
-is_input (an_output array) = false
-is_input a_handle = false
+abbrev pub is_input : ParameterKind → Bool
+is_input Value = false
+is_input (Input word) = true
+is_input (Output array) = false
+is_input Handle = false
 
 -- the fields of the record type, where this is an input
 abbrev pub input_fields : List TypedStruct → TypedParameterType → Option (List TypedField)
@@ -140,12 +136,12 @@ abbrev pub body_sites : List TypedStmt → Sites AttributeSite
 body_sites body = all_sites (map stmt_sites body)
 
 -- a parameter of a node: its attributes, and what it must have itself
-abbrev pub parameter_sites : Option Mode → Own → TypedParameter → Kind → Sites AttributeSite
-parameter_sites mode here p a_value = sites_at on_value p.attributes & only (AtValue mode p)
-parameter_sites mode here p (an_input word) = sites_at (on_input mode) p.attributes & only (AtInput mode word p)
-parameter_sites mode here p (an_output false) = sites_at (on_output here) p.attributes & only (AtOutput false p)
-parameter_sites mode here p (an_output true) = sites_at (on_output_array here) p.attributes & only (AtOutput true p)
-parameter_sites mode here p a_handle = sites_at on_value p.attributes
+abbrev pub parameter_sites : Option Mode → Own → TypedParameter → ParameterKind → Sites AttributeSite
+parameter_sites mode here p Value = sites_at on_value p.attributes & only (AtValue mode p)
+parameter_sites mode here p (Input word) = sites_at (on_input mode) p.attributes & only (AtInput mode word p)
+parameter_sites mode here p (Output false) = sites_at (on_output here) p.attributes & only (AtOutput false p)
+parameter_sites mode here p (Output true) = sites_at (on_output_array here) p.attributes & only (AtOutput true p)
+parameter_sites mode here p Handle = sites_at on_value p.attributes
 
 -- the parameters of a node from a number on
 abbrev pub parameters_sites : Option Mode → List TypedParameter → ℕ → List TypedParameter → Sites AttributeSite

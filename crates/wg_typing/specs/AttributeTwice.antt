@@ -3,25 +3,27 @@ use Rattle.std.specs.Prelude.{ℕ, Bool, true, false, ◌||◌, List, [], ◌∷
 use Rattle.std.specs.Str.{bytes_eq}
 use Rattle.std.specs.List.{list_any}
 use Rattle.wg_words.specs.declared.place.Place.{Place}
-use Rattle.wg_typing.specs.Named.{small, is_among}
+use Rattle.wg_typing.specs.Named.{small, is_same_name, is_among}
 use Rattle.wg_typing.specs.AttributeSites.{AttributeSite, AtAttribute, AtNode, AtInput, AtOutput, AtValue, Position}
-use Rattle.wg_typing.specs.AttributeNames.{Name, dispatch_grid, max_dispatch_grid, max_records, max_records_shared_with, standing}
+use Rattle.wg_typing.specs.AttributeNames.{standing}
 use Rattle.wg_typing.specs.Sites.{at_if}
 use Rattle.wg_typed.specs.declared.typed_stmt.TypedAttribute.{TypedAttribute}
+use Rattle.wg_typing.specs.declared.attribute.AttributeName.{AttributeName}
+use Rattle.wg_typing.specs.declared.attribute.AttributeName.TheVariants.{DispatchGrid, MaxDispatchGrid, MaxRecords, MaxRecordsSharedWith}
 
-abbrev pub are_rivals : Name → Name → Bool
-are_rivals dispatch_grid max_dispatch_grid = true
-are_rivals max_dispatch_grid dispatch_grid = true
-are_rivals max_records max_records_shared_with = true
-are_rivals max_records_shared_with max_records = true
+abbrev pub are_rivals : AttributeName → AttributeName → Bool
+are_rivals DispatchGrid MaxDispatchGrid = true
+are_rivals MaxDispatchGrid DispatchGrid = true
+are_rivals MaxRecords MaxRecordsSharedWith = true
+are_rivals MaxRecordsSharedWith MaxRecords = true
 are_rivals _ _ = false
 
-abbrev pub rival_names : Option Name → Option Name → Bool
+abbrev pub rival_names : Option AttributeName → Option AttributeName → Bool
 rival_names (Some x) (Some y) = are_rivals x y
 rival_names _ _ = false
 
 abbrev pub has_one_name : TypedAttribute → TypedAttribute → Bool
-has_one_name a b = bytes_eq (map small a.name.name) (map small b.name.name)
+has_one_name a b = is_same_name a.name.name b.name.name
 
 abbrev pub clashes : Position → TypedAttribute → TypedAttribute → Bool
 clashes position a b = has_one_name b a || rival_names (standing position b) (standing position a)
@@ -38,9 +40,9 @@ twice_at (AtValue mode p) = []
 abbrev pub small_name : TypedAttribute → List ℕ
 small_name a = map small a.name.name
 
-abbrev pub any_rival : Option Name → List (Option Name) → Bool
+abbrev pub any_rival : Option AttributeName → List (Option AttributeName) → Bool
 any_rival name [] = false
 any_rival name (x ∷ rest) = rival_names x name || any_rival name rest
 
-abbrev pub clashes_among : Position → List (List ℕ) → List (Option Name) → TypedAttribute → Bool
+abbrev pub clashes_among : Position → List (List ℕ) → List (Option AttributeName) → TypedAttribute → Bool
 clashes_among position names stood a = is_among names (small_name a) || any_rival (standing position a) stood

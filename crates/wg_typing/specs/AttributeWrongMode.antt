@@ -1,27 +1,30 @@
 -- Rule 405 of attributes: what the launch mode of the node forbids. Its number is own.
 use Rattle.std.specs.Prelude.{Bool, true, false, not, ◌&&◌, List, [], Option, Some, None}
 use Rattle.wg_words.specs.declared.place.Place.{Place}
-use Rattle.wg_typing.specs.AttributeArguments.{Mode, in_mode, is_broadcasting, is_coalescing, is_thread}
+use Rattle.wg_typing.specs.AttributeArguments.{in_mode, is_broadcasting, is_coalescing, is_thread}
 use Rattle.wg_typing.specs.AttributeSites.{AttributeSite, AtAttribute, AtNode, AtInput, AtOutput, AtValue, Position, on_struct, on_node, on_plain, on_input, on_output, on_output_array, on_value, on_branch}
-use Rattle.wg_typing.specs.AttributeNames.{Name, dispatch_grid, max_dispatch_grid, max_records, standing}
+use Rattle.wg_typing.specs.AttributeNames.{standing}
 use Rattle.wg_typed.specs.declared.typed.SystemValue.{SystemValue}
 use Rattle.wg_typed.specs.declared.typed.SystemValue.TheVariants as system
 use Rattle.wg_typing.specs.Sites.{at_if}
 use Rattle.wg_typing.specs.TypingSystem.{system_of}
 use Rattle.wg_tree.specs.declared.stmt.ObjectWord.{ObjectWord}
 use Rattle.wg_tree.specs.declared.stmt.ObjectWord.TheVariants as object
+use Rattle.wg_typing.specs.declared.attribute.AttributeName.{AttributeName}
+use Rattle.wg_typing.specs.declared.attribute.AttributeName.TheVariants.{DispatchGrid, MaxDispatchGrid, MaxRecords}
+use Rattle.wg_typing.specs.declared.attribute.Mode.{Mode}
 
-abbrev pub is_grid : Option Name → Bool
-is_grid (Some dispatch_grid) = true
-is_grid (Some max_dispatch_grid) = true
+abbrev pub is_grid : Option AttributeName → Bool
+is_grid (Some DispatchGrid) = true
+is_grid (Some MaxDispatchGrid) = true
 is_grid _ = false
 
-abbrev pub is_bound : Option Name → Bool
-is_bound (Some max_records) = true
+abbrev pub is_bound : Option AttributeName → Bool
+is_bound (Some MaxRecords) = true
 is_bound _ = false
 
 -- an attribute that the launch mode forbids: a grid on a node that does not broadcast, a bound on the input of one that does not coalesce
-abbrev pub is_forbidden : Position → Option Name → Bool
+abbrev pub is_forbidden : Position → Option AttributeName → Bool
 is_forbidden on_struct name = false
 is_forbidden (on_node mode) name = is_grid name && in_mode (λ m. not (is_broadcasting m)) mode
 is_forbidden on_plain name = false

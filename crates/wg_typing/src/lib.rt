@@ -1,6 +1,7 @@
 //! What the typing rules speak of, and their laws: what breaks none of them has a typed form, and the list of faults holds just the broken rules, and the first of them is the least.
 #![tactic(auto)]
 
+mod attribute;
 mod called;
 mod context;
 mod event;
@@ -11,6 +12,7 @@ mod part;
 mod scope;
 mod so_far;
 
+pub use attribute::{AttributeName, Mode, ParameterKind};
 pub use called::{Builtin, CalledName, Flag, Method};
 pub use context::{Around, ContextOf, GivesBack, VariableForm};
 pub use event::{Event, Region};

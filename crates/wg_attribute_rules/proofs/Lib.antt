@@ -1,0 +1,4 @@
+pub mod Cases
+pub mod Firsts
+pub mod Kept
+pub mod Tables

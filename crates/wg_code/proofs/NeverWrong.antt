@@ -126,6 +126,31 @@ positive : (n : ℕ) → 1 ≤ n → (m : ℕ) × (n ≡ suc m)
 positive zero le = absurd (omega (arith, le))
 positive (suc m) le = (m, refl)
 
+-- what validity says of a unit, of its node's code, and of the functions
+pub unit_valid : (code : RawCode) (at : ℕ) (unit : Node) (node : NodeCode) → valid code ≡ true → IsGoodShape code.shape → slice_get code.shape.units at ≡ Some unit → slice_get code.nodes unit.node ≡ Some node
+    → (list_all (is_valid_function code) code.functions ≡ true) × (is_valid_node code unit.node node ≡ true) × (outputs_of code.shape.units unit.node ≡ length unit.outputs)
+unit_valid code at unit node checked good is_unit is_node =
+    let bodies = right (nat_le code.shared MOST_SHARED_WORDS && (length code.nodes == length code.shape.nodes)) (list_all (is_valid_function code) code.functions && are_valid_nodes code 0 code.nodes) checked in
+    let functions = left (list_all (is_valid_function code) code.functions) (are_valid_nodes code 0 code.nodes) bodies in
+    let nodes = right (list_all (is_valid_function code) code.functions) (are_valid_nodes code 0 code.nodes) bodies in
+    let fine = nodes_at code 0 code.nodes unit.node unit.node node is_node (omega arith) nodes in
+    let few = (good.units at unit is_unit).few_outputs in
+    let outputs = least_is_here unit.node (length unit.outputs) code.shape.units (λ i v e is. same_outputs v unit (good.alike i at v unit e is_unit is)) (omega (arith, few)) at unit is_unit refl in
+    (functions, fine, outputs)
+
+pub node_parts : (code : RawCode) (at : ℕ) (node : NodeCode) → is_valid_node code at node ≡ true → parts_valid (node_scope code at node) node.parts ≡ true
+node_parts code at node good =
+    left (parts_valid (node_scope code at node) node.parts) (nat_le (requests_in_parts node.parts) MOST_CODE_WEIGHT)
+    (right (threads_fit code.shape.units at (lanes_in node.threads) && list_all (λ (h : Handle). nat_lt h.output (outputs_of code.shape.units at)) node.handles) (parts_valid (node_scope code at node) node.parts && nat_le (requests_in_parts node.parts) MOST_CODE_WEIGHT) good)
+
+-- valid bodies run alike on each lane of a unit
+pub bodies_alike : (code : RawCode) (launch : Launch) (unit : Node) (node : NodeCode) → list_all (is_valid_function code) code.functions ≡ true → outputs_of code.shape.units unit.node ≡ length unit.outputs
+    → (body : List Op) → are_valid (node_scope code unit.node node) false body ≡ true → (at : ℕ) → Alike false node.registers code.shared (node_does true code node unit launch body at) (node_does false code node unit launch body at)
+bodies_alike code launch unit node functions outputs body v at =
+    let T : ℕ → Tables = λ o. record { registers = node.registers; shared = code.shared; buffers = length code.shape.buffers; outputs = o; handles = node.handles; functions = code.functions } in
+    let A = around_of code node unit launch at in
+    ops_alike (node_scope code unit.node node) A node.registers code.shared (ap T outputs) (callees true (in_function A) 33) (callees false (in_function A) 33) (callees_alike code (in_function A) (λ c. refl) functions 33 33 (omega arith)) false body v
+
 module _ (code : RawCode) (launch : Launch) (buffers : Buffers) (turns : ℕ) where
   node_alike : (unit : Node) (node : NodeCode) → list_all (is_valid_function code) code.functions ≡ true → is_valid_node code unit.node node ≡ true → outputs_of code.shape.units unit.node ≡ length unit.outputs
       → (verdict_of unit turns (node_ends true code (Some node) unit launch buffers turns) ≡ verdict_of unit turns (node_ends false code (Some node) unit launch buffers turns))
@@ -136,13 +161,7 @@ module _ (code : RawCode) (launch : Launch) (buffers : Buffers) (turns : ℕ) wh
       let fit = left (threads_fit code.shape.units unit.node (lanes_in node.threads)) _ head in
       let some = left (nat_le 1 (lanes_in node.threads)) _ (left (nat_le 1 (lanes_in node.threads) && nat_le (lanes_in node.threads) MOST_LANES) _ fit) in
       let p = positive (lanes_in node.threads) (leb-true 1 (lanes_in node.threads) some) in
-      let tail = right (threads_fit code.shape.units unit.node (lanes_in node.threads) && list_all (λ (h : Handle). nat_lt h.output (outputs_of code.shape.units unit.node)) node.handles) (parts_valid k node.parts && nat_le (requests_in_parts node.parts) MOST_CODE_WEIGHT) good in
-      let parts = left (parts_valid k node.parts) (nat_le (requests_in_parts node.parts) MOST_CODE_WEIGHT) tail in
-      let T : ℕ → Tables = λ o. record { registers = node.registers; shared = code.shared; buffers = length code.shape.buffers; outputs = o; handles = node.handles; functions = code.functions } in
-      let bodies : (body : List Op) → are_valid k false body ≡ true → (at : ℕ) → Alike false node.registers code.shared (node_does true code node unit launch body at) (node_does false code node unit launch body at) =
-      (λ body v at. let A = around_of code node unit launch at in
-      ops_alike k A node.registers code.shared (ap T outputs) (callees true (in_function A) 33) (callees false (in_function A) 33) (callees_alike code (in_function A) (λ c. refl) functions 33 33 (omega arith)) false body v) in
-      let goes = parts_alike k code.shared p.0 (node_does true code node unit launch) (node_does false code node unit launch) bodies node.parts parts (first_lanes node) (outside_before code unit launch buffers) turns (rows_of (lanes_in node.threads) node.registers) (length-replicate (lanes_in node.threads) (zeros node.registers) ∙ p.1) (length-replicate {A = ℕ} code.shared 0) in
+      let goes = parts_alike k code.shared p.0 (node_does true code node unit launch) (node_does false code node unit launch) (bodies_alike code launch unit node functions outputs) node.parts (node_parts code unit.node node good) (first_lanes node) (outside_before code unit launch buffers) turns (rows_of (lanes_in node.threads) node.registers) (length-replicate (lanes_in node.threads) (zeros node.registers) ∙ p.1) (length-replicate {A = ℕ} code.shared 0) in
       (ap (verdict_of unit turns) goes.0, not_wrong unit turns node.registers code.shared (suc p.0) _ goes.1)
 
   pub launch_alike : valid code ≡ true → IsGoodShape code.shape → FitsShape code.shape launch → (verdict true code launch buffers turns ≡ verdict false code launch buffers turns) × IsNotWrong (verdict false code launch buffers turns)
@@ -152,18 +171,13 @@ module _ (code : RawCode) (launch : Launch) (buffers : Buffers) (turns : ℕ) wh
       let un = good.unrolling in
       let counts = left (nat_le code.shared MOST_SHARED_WORDS && (length code.nodes == length code.shape.nodes)) _ checked in
       let count = right (nat_le code.shared MOST_SHARED_WORDS) (length code.nodes == length code.shape.nodes) counts in
-      let bodies = right (nat_le code.shared MOST_SHARED_WORDS && (length code.nodes == length code.shape.nodes)) (list_all (is_valid_function code) code.functions && are_valid_nodes code 0 code.nodes) checked in
-      let functions = left (list_all (is_valid_function code) code.functions) (are_valid_nodes code 0 code.nodes) bodies in
-      let nodes = right (list_all (is_valid_function code) code.functions) (are_valid_nodes code 0 code.nodes) bodies in
       let placed = in_unrolled 0 un.depths launch.unit (node_and_level unit) (sym (ap (λ (l : List (ℕ × ℕ)). slice_get l launch.unit) un.units) ∙ get_map node_and_level code.shape.units launch.unit unit u.1) in
       let same : length code.nodes ≡ length code.shape.nodes = grind (arith, count) in
       let inside : unit.node < length code.nodes = omega (arith, placed, un.count, same) in
       let n = get_some code.nodes unit.node inside in
       let node : NodeCode = n.0 in
-      let fine = nodes_at code 0 code.nodes unit.node unit.node node n.1 (omega arith) nodes in
-      let few = (good.units launch.unit unit u.1).few_outputs in
-      let outputs = least_is_here unit.node (length unit.outputs) code.shape.units (λ i v e is. same_outputs v unit (good.alike i launch.unit v unit e u.1 is)) (omega (arith, few)) launch.unit unit u.1 refl in
-      let g = node_alike unit node functions fine outputs in
+      let here = unit_valid code launch.unit unit node checked good u.1 n.1 in
+      let g = node_alike unit node here.0 here.1 here.2 in
       let path : (strict : Bool) → verdict strict code launch buffers turns ≡ verdict_of unit turns (node_ends strict code (Some node) unit launch buffers turns) =
       (λ strict. ap (λ o. unit_verdict strict code o launch buffers turns) u.1 ∙ ap (λ o. verdict_of unit turns (node_ends strict code o unit launch buffers turns)) n.1) in
       (path true ∙ (g.0 ∙ sym (path false)), subst IsNotWrong (sym (path false)) g.1)

@@ -40,7 +40,7 @@ module _ (r sh : ℕ) where
   left_alike (Done Again f t) g = absurd (let e = g.0 in cc)
   left_alike (Done Wrong f t) g = absurd g.0
 
-  lane_alike : (m k : Action Site Exit) → Alike false r sh m k → (lane : List ℕ) (w : Outside) (t : ℕ) → length lane ≡ r → length w.0 ≡ sh
+  pub lane_alike : (m k : Action Site Exit) → Alike false r sh m k → (lane : List ℕ) (w : Outside) (t : ℕ) → length lane ≡ r → length w.0 ≡ sh
       → (lane_runs true m lane w t ≡ lane_runs false k lane w t) × LaneFits r sh (lane_runs false k lane w t)
   lane_alike m k a lane w t e1 e2 =
       let site : Site = record { registers = lane; shared = w.0; world = w.1 } in

@@ -1,12 +1,14 @@
 pub mod CodeMeaning
 pub mod Counts
 pub mod Flow
+pub mod FrameMeaning
 pub mod Functions
 pub mod Given
 pub mod Lane
 pub mod Named
 pub mod OpMeaning
 pub mod Operators
+pub mod PartBodies
 pub mod PartMeaning
 pub mod Quiet
 pub mod Records

@@ -13,5 +13,5 @@ mod valid;
 pub use checked::{Code, validate};
 pub use code::{Function, Functions, Handle, Handles, NodeCode, NodeCodes, Part, Parts, RawCode};
 pub use frame::{Frame, Grants};
-pub use laws::{never_wrong, tests_change_nothing};
+pub use laws::{bodies_go_through, never_wrong, tests_change_nothing};
 pub use op::{Op, Ops};

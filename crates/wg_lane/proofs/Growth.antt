@@ -13,7 +13,7 @@ use Rattle.wg_machine.specs.declared.memory.Seen.{Seen}
 use Rattle.wg_machine.specs.declared.memory.Write.{Write}
 use Rattle.wg_operations.specs.Says.{Keeps}
 use Rattle.wg_operations.specs.declared.end.End.{End}
-use Rattle.wg_lane.specs.Going.{GoesOn, Kept}
+use Rattle.wg_leaves.specs.Going.{GoesOn, Kept}
 use Rattle.wg_lane.specs.Silence.{LogsNothing}
 
 pub both_left : (a b : Bool) → (a && b) ≡ true → a ≡ true
@@ -74,11 +74,6 @@ kept_then q n m k a b (Err halt.Memory) c g h = tt
 pub kept_error : (q : Bool) (n m k : ℕ) (a b : Trace) (h : Halt) (c : Trace) → GoesOn q n m a b → Kept {A = End} q m k b (Err h) c → Kept {A = End} q n k a (Err h) c
 kept_error q n m k a b halt.Turns c g e = goes_then q n m k a b c g e
 kept_error q n m k a b halt.Memory c g e = tt
-
-pub kept_alone : (q : Bool) (n : ℕ) (a : Trace) (r : Result End Halt) (b : Trace) → Keeps r a b → (IsTrue q → LogsNothing r a b) → Kept q n n a r b
-kept_alone q n a (Ok e) b g s = record { turns_left = omega arith; grows = g; silent = s }
-kept_alone q n a (Err halt.Turns) b g s = record { turns_left = omega arith; grows = g; silent = s }
-kept_alone q n a (Err halt.Memory) b g s = tt
 
 pub keeps_of : (q : Bool) (n m : ℕ) (a : Trace) (r : Result End Halt) (b : Trace) → Kept q n m a r b → Keeps r a b
 keeps_of q n m a (Ok e) b g = g.grows

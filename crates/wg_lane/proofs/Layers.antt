@@ -18,7 +18,8 @@ use Rattle.wg_registers.specs.Given.{site_of}
 use Rattle.wg_registers.specs.declared.outside.Outside.{Outside}
 use Rattle.wg_operations.specs.Says.{Runs}
 use Rattle.wg_operations.specs.declared.end.End.{End}
-use Rattle.wg_lane.specs.Going.{GoesOn, functions_quiet, is_quiet_op, loop_reads_nothing}
+use Rattle.wg_leaves.specs.Going.{GoesOn, is_quiet_op}
+use Rattle.wg_lane.specs.Loops.{functions_quiet, loop_reads_nothing}
 use Rattle.wg_lane.specs.Silence.{reads_nothing}
 use Rattle.wg_lane.proofs.Growth.{both_left, both_right, fewer_turns, goes_then, goes_weaker}
 use Rattle.wg_lane.proofs.Rest.{Act, Rest, along, chosen_first, chosen_second}

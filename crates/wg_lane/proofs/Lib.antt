@@ -1,4 +1,5 @@
 mod Calls
+mod Frames
 mod Growth
 mod Layers
 mod Leaf

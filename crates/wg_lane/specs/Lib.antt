@@ -1,3 +1,4 @@
-pub mod Going
-pub mod Leaves
+pub mod Frames
+pub mod LaneSays
+pub mod Loops
 pub mod Silence

@@ -5,11 +5,12 @@ ghost use Rattle.wg_code.specs.Functions.{in_function, callees, body_runs};
 ghost use Rattle.wg_code.specs.OpMeaning.{op_does, ops_do};
 ghost use Rattle.wg_registers.specs.Given.{around_of};
 ghost use Rattle.wg_operations.specs.Says.{Runs, Keeps};
-ghost use Rattle.wg_lane.specs.Going.{Kept, functions_quiet, is_quiet_op, loop_reads_nothing, comes_again};
+ghost use Rattle.wg_leaves.specs.Going.{Kept, is_quiet_op};
+ghost use Rattle.wg_lane.specs.Loops.{functions_quiet, loop_reads_nothing, comes_again};
 ghost use Rattle.wg_lane.specs.Silence.{reads_nothing, LogsNothing};
 
-use crate::leaves::run_leaf;
 use wg_code::{Function, Op};
+use wg_leaves::run_leaf;
 use wg_machine::{Halt, Memory};
 use wg_operations::{End, Spare, goes_on, goes_through, put_results, window};
 use wg_registers::{Around, Outside, for_function, word};

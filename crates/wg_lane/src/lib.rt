@@ -2,8 +2,9 @@
 #![tactic(auto)]
 
 mod body;
-mod leaves;
+mod lane;
 mod start;
 
 pub use body::run_body;
-pub use start::{GroupSpot, around, coordinates};
+pub use lane::run_lane;
+pub use start::{GroupSpot, around};

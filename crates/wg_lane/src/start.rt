@@ -1,6 +1,5 @@
-ghost use Rattle.std.specs.Prelude.{◌≡◌, ◌/◌, ◌%◌};
+ghost use Rattle.std.specs.Prelude.{◌≡◌};
 ghost use Rattle.wg_machine.specs.declared.launch.Launch.{Launch as Launched};
-ghost use Rattle.wg_state.specs.Lanes.{coordinates_of};
 ghost use Rattle.wg_code.specs.CodeMeaning.{around_of as around_at, numbers_of};
 ghost use Rattle.wg_registers.specs.Given.{around_of};
 
@@ -8,7 +7,8 @@ use std::alloc::Global;
 use wg_code::{NodeCode, RawCode};
 use wg_machine::Unit;
 use wg_registers::Around;
-use wg_words::{Word, add, mul};
+use wg_state::{coordinates, dispatch_place};
+use wg_words::Word;
 
 /// The group of a lane in its record's grid, and whether it is the record's last.
 #[derive(Clone, Copy)]
@@ -18,50 +18,14 @@ pub struct GroupSpot {
     pub last: bool,
 }
 
-fn remainder(a: u32, b: u32) -> u32
-    ensures { result ≡ a % b }
-{
-    match a.checked_rem(b) {
-        Some(r) => r,
-        None => a,
-    }
-}
-
-fn quotient(a: u32, b: u64) -> u32
-    ensures { result ≡ a / b }
-{
-    match u64::from(a).checked_div(b) {
-        Some(q) => q as u32,
-        None => 0,
-    }
-}
-
-/// The coordinates of a number in a box of so many, x running fastest.
-pub fn coordinates(size: [Word; 3], number: u32) -> [Word; 3]
-    ensures { result ≡ coordinates_of size number }
-{
-    let [x, y, _] = size;
-    let row = quotient(number, u64::from(x));
-    let layer = quotient(number, u64::from(x) * u64::from(y));
-    [remainder(number, x), remainder(row, y), layer]
-}
-
 /// The ten system values of a lane of a group.
 fn numbers(group: [Word; 3], threads: [Word; 3], lane: u32) -> [Word; 10]
     ensures { result ≡ numbers_of group threads lane }
 {
     let at = coordinates(threads, lane);
+    let place = dispatch_place(group, threads, lane);
     [
-        group[0],
-        group[1],
-        group[2],
-        at[0],
-        at[1],
-        at[2],
-        add(mul(group[0], threads[0]), at[0]),
-        add(mul(group[1], threads[1]), at[1]),
-        add(mul(group[2], threads[2]), at[2]),
-        lane,
+        group[0], group[1], group[2], at[0], at[1], at[2], place[0], place[1], place[2], lane,
     ]
 }
 

@@ -8,8 +8,9 @@ use Rattle.wg_code.specs.Lane.{set_all}
 use Rattle.wg_code.specs.OpMeaning.{op_does, ops_do}
 use Rattle.wg_registers.specs.Given.{around_of, site_of}
 use Rattle.wg_operations.specs.Says.{exit_of}
-use Rattle.wg_lane.specs.Going.{functions_quiet, is_quiet_op, loop_reads_nothing}
-use Rattle.wg_lane.specs.Leaves.{leaf_does}
+use Rattle.wg_leaves.specs.Going.{is_quiet_op}
+use Rattle.wg_leaves.specs.Leaves.{leaf_does}
+use Rattle.wg_lane.specs.Loops.{functions_quiet, loop_reads_nothing}
 use Rattle.wg_lane.specs.Silence.{reads_nothing}
 use Rattle.wg_lane.proofs.Calls.{nothing_called, none_nested, none_there, one_there, called_same, function_ends, function_stops, whole_again}
 use Rattle.wg_lane.proofs.Growth.{both_right, goes_then, goes_weaker, kept_error, kept_weaker}

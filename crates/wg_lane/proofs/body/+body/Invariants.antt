@@ -3,7 +3,8 @@ use Rattle.wg_code.specs.Counts.{count_of}
 use Rattle.wg_code.specs.Functions.{in_function, callees}
 use Rattle.wg_code.specs.OpMeaning.{ops_do}
 use Rattle.wg_registers.specs.Given.{around_of}
-use Rattle.wg_lane.specs.Going.{GoesOn, loop_reads_nothing}
+use Rattle.wg_leaves.specs.Going.{GoesOn}
+use Rattle.wg_lane.specs.Loops.{loop_reads_nothing}
 use Rattle.wg_lane.specs.Silence.{reads_nothing}
 use Rattle.wg_lane.proofs.Rest.{Rest, Turning}
 use Rattle.wg_lane.proofs.Sizes.{op_size, functions_size}

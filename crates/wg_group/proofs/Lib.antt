@@ -1,0 +1,5 @@
+pub mod Ending
+pub mod Going
+pub mod Growth
+pub mod Layers
+pub mod Rows

@@ -1,0 +1,3 @@
+pub mod Launching
+pub mod Quieter
+pub mod Running

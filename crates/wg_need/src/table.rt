@@ -1,4 +1,6 @@
-ghost use Rattle.std.specs.Prelude.{◌≡◌, ℕ, ◌-◌, ◌<◌, ◌≤◌, ◌^◌, All, IfOk, [], ◌∷◌, length, slice_get, slice_index, take, drop, unwrap_or};
+ghost use Rattle.std.specs.Prelude.{◌≡◌, ℕ, ◌-◌, ◌<◌, ◌≤◌, ◌^◌, All, IfOk, [], ◌∷◌, length, slice_get, slice_index, take, drop, min, unwrap_or};
+ghost use Rattle.std.specs.List.{sum_by};
+ghost use Rattle.wg_machine.specs.declared.shape.Unit.{Unit as UnitOf};
 ghost use Rattle.wg_machine.specs.Need.{need};
 ghost use Rattle.wg_need.specs.Block.{AreEnds};
 ghost use Rattle.wg_need.specs.Rows.{need_at, need_by, IsSoundRow};
@@ -41,10 +43,6 @@ impl Needs {
         ensures { result ≡ length self.now }
     {
         self.ends.as_slice().len()
-    }
-
-    pub fn is_empty(&self) -> bool {
-        self.ends.is_empty()
     }
 
     /// The needs of a unit.
@@ -109,8 +107,8 @@ fn rows_of(alloc: Global, units: &[Unit], seen: &mut [Seen]) -> Result<Needs, Al
     ensures needs { IfOk result (λ rows. (u v : ℕ) → v < length units.now → need_at rows u v ≡ need_by units.now u v) }
     ensures sound { IfOk result (λ rows. All (IsSoundRow (length units.now)) rows) }
 {
-    let mut ends = Vec::new(alloc);
-    let mut needs = Vec::new(alloc);
+    let mut ends = Vec::with_capacity(alloc, units.len())?;
+    let mut needs = Vec::with_capacity(alloc, count_outputs(units))?;
     for unit in units {
         sum_up(
             unit.outputs.as_slice(),
@@ -121,6 +119,17 @@ fn rows_of(alloc: Global, units: &[Unit], seen: &mut [Seen]) -> Result<Needs, Al
         ends.push(needs.len())?;
     }
     Ok(Needs { ends, needs })
+}
+
+/// How many outputs units have, or the greatest number where they have more.
+fn count_outputs(units: &[Unit]) -> usize
+    ensures { result ≡ min (sum_by (λ (unit : UnitOf). length unit.outputs) units.now) (2 ^ 64 - 1) }
+{
+    let mut count: usize = 0;
+    for unit in units {
+        count = count.saturating_add(unit.outputs.as_slice().len());
+    }
+    count
 }
 
 #[cfg(test)]

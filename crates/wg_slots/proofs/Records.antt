@@ -1,6 +1,6 @@
 -- Records by slot, from numbers and words.
 use Rattle.std.proofs.Common.{◌≡◌, ◌≢◌, ℕ, zero, suc, ◌+◌, Bool, true, false, List, [], ◌∷◌, length, Option, Some, None, refl, sym, ap, subst, ◌∙◌, arith}
-use Rattle.std.specs.Prelude.{◌⊎◌, ◌==◌, ◌||◌, cond, is_some, IsSome, count_by, filter_map, slice_get, slice_index_or}
+use Rattle.std.specs.Prelude.{◌==◌, ◌||◌, cond, is_some, IsSome, count_by, filter_map, slice_get, slice_index_or}
 use Rattle.std.specs.Option.{option_map}
 use Rattle.std.specs.List.{cons_option}
 use Rattle.std.proofs.lemmas.List.Sums.{sum_by-cons}

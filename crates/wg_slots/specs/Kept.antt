@@ -1,4 +1,4 @@
--- How a unit's slots are kept: where its row of the block begins, a queue of slots and the numbers by slot. This project's own.
+-- How a unit's slots are kept: where its row of the block begins, the slots that wait and the numbers by slot. This project's own.
 use Rattle.std.specs.Prelude.{◌≡◌, ◌≢◌, ⊤, ℕ, zero, suc, ◌+◌, ◌*◌, ◌^◌, ◌<◌, ◌≤◌, true, false, List, [], ◌∷◌, ◌++◌, is_some, IsSome, count_by, slice_index, slice_index_or, Option, Some, None}
 use Rattle.std.specs.Option.{option_map}
 use Rattle.wg_machine.specs.declared.launch.Record.{Record}
@@ -56,12 +56,6 @@ pub record IsSound (k : Kept) : Type 0 where
   pub within : (slot : ℕ) → IsSome (number_at k slot) → slot < k.count
   pub there : (slot : ℕ) → waits_in k.waiting slot ≡ true → IsSome (number_at k slot)
   pub apart : AreApart k.waiting
-
--- there is room for each slot in the queue, and no more than for each among the numbers
-pub record HasRoom (count queue_room room : ℕ) : Type 0 where
-  pub small : count < 2 ^ 32
-  pub queue : count ≤ queue_room
-  pub numbers : room ≡ count
 
 -- a number comes to a slot that had none, and the slot waits after the others
 pub record KeepsNumber (old new : Kept) (number slot : ℕ) : Type 0 where

@@ -1,5 +1,5 @@
 -- The records of a unit by their slots: those that wait and those that are held. This project's own.
-use Rattle.std.specs.Prelude.{◌≡◌, ◌≢◌, ℕ, ◌+◌, ◌-◌, ◌*◌, ◌<◌, ◌==◌, Bool, true, false, if◌then◌else◌, List, [], ◌∷◌, ◌++◌, is_some, IsSome, count_by, filter_map, slice_get, slice_index_or, unwrap_or, Option, Some, None}
+use Rattle.std.specs.Prelude.{◌≡◌, ◌≢◌, ℕ, ◌+◌, ◌-◌, ◌*◌, ◌<◌, ◌==◌, Bool, false, if◌then◌else◌, List, [], ◌∷◌, ◌++◌, is_some, IsSome, count_by, filter_map, slice_get, slice_index_or, unwrap_or, Option, Some, None}
 use Rattle.std.specs.List.{list_any}
 use Rattle.wg_machine.specs.declared.launch.Record.{Record}
 

@@ -2,6 +2,7 @@
 #![tactic(auto)]
 
 mod block;
+mod places;
 mod slots;
 mod unit;
 

@@ -1,31 +1,32 @@
-ghost use Rattle.std.specs.Prelude.{◌≡◌, ◌+◌, ◌*◌, ◌<◌, ◌≤◌, ◌∷◌, ◌^◌, IsSome, Some, IfOk, length, slice_get};
-ghost use Rattle.wg_slots.specs.SlotsOf.{slot_words as words_of_slot};
-ghost use Rattle.wg_slots.specs.Kept.{IsSound, empty_kept, number_at, numbers_used, start_of, end_of, KeepsNumber, DropsNumber};
+ghost use Rattle.std.specs.Prelude.{◌≡◌, ◌+◌, ◌*◌, ◌<◌, ◌≤◌, ◌∷◌, ◌^◌, false, IsSome, Some, IfOk, length, slice_get};
+ghost use Rattle.wg_slots.specs.SlotsOf.{slot_words as words_of_slot, waits_in};
+ghost use Rattle.wg_slots.specs.Kept.{empty_kept, number_at, numbers_used, start_of, end_of, KeepsNumber, DropsNumber};
 
-use slab::Slab;
+use crate::places::Places;
 use std::alloc::{AllocError, Global};
-use std::collections::VecDeque;
 use std::marker::Model;
 
-/// The slots of one unit: the queue of those that wait, and the numbers of the records by slot.
+/// The slots of one unit: the ring of those that wait and those that are free again, and by slot the number of its record.
+/// Both have room for each slot from the start. Slots that had no record yet are above those that `numbers` has.
 #[derive(Drop)]
 pub struct UnitSlots {
     count: u32,
     words: u32,
     first: usize,
-    waiting: VecDeque<u32>,
-    numbers: Slab<u64>,
+    places: Places,
+    numbers: Vec<u64>,
 }
 
 impl Model for UnitSlots {
-    ghost use Rattle.std.specs.VecDeque.{deque_capacity};
-    ghost use Rattle.wg_slots.specs.Kept.{Kept, HasRoom};
+    ghost use Rattle.std.specs.Prelude.{vec_capacity};
+    ghost use Rattle.wg_slots.specs.Kept.{Kept};
+    ghost use Rattle.wg_slots.specs.Places.{in_use, IsRing};
 
     ghost Value = { Kept };
 
-    ghost view = { λ s. record { count = s.count; words = s.words; first = s.first; waiting = s.waiting.items; numbers = s.numbers.slots } };
+    ghost view = { λ s. record { count = s.count; words = s.words; first = s.first; waiting = s.places.waiting; numbers = in_use s.places.free 0 s.numbers.items } };
 
-    ghost invariant = { λ s. HasRoom s.count (deque_capacity s.waiting) s.numbers.capacity };
+    ghost invariant = { λ s. IsRing s.count (vec_capacity s.numbers) s.places s.numbers.items };
 }
 
 /// The words of a slot for records of so many words.
@@ -41,34 +42,30 @@ impl UnitSlots {
         ensures slots { IfOk result (λ slots. slots ≡ empty_kept count words first) }
         ensures small { count < 2 ^ 32 }
     {
-        let waiting = VecDeque::with_capacity(alloc, count as usize)?;
-        let numbers = Slab::with_capacity(alloc, count as usize)?;
-        // A slot's number has to be below the count.
-        if numbers.capacity() != count as usize {
-            return Err(AllocError);
-        }
+        let places = Places::new(alloc, count as usize)?;
+        let numbers = Vec::with_capacity(alloc, count as usize)?;
         Ok(UnitSlots {
             count,
             words,
             first,
-            waiting,
+            places,
             numbers,
         })
     }
 
     /// How many slots have no record.
     pub fn free(&self) -> u32
-        requires { IsSound self.now }
         ensures { result + numbers_used self.now ≡ self.now.count }
     {
-        self.count - self.numbers.len() as u32
+        let unused = self.count as usize - self.numbers.len();
+        (unused + self.places.free()) as u32
     }
 
     pub fn waiting(&self) -> u32
         requires { length self.now.waiting ≤ self.now.count }
         ensures { result ≡ length self.now.waiting }
     {
-        self.waiting.len() as u32
+        self.places.waiting() as u32
     }
 
     /// Where a slot begins in the block.
@@ -87,14 +84,20 @@ impl UnitSlots {
         self.words as usize
     }
 
-    /// Takes a free slot for a record of this number, which waits after the others.
+    /// Takes a slot for a record of this number, which waits after the others: one that is free again, else the least that had
+    /// no record yet.
     pub fn put(&mut self, number: u64) -> u32
-        requires free { numbers_used self.old < self.old.count }
-        requires few { length self.old.waiting < self.old.count }
+        requires { numbers_used self.old < self.old.count }
         ensures { KeepsNumber self.old self.new number result }
     {
-        let slot = self.numbers.insert_reserved(number) as u32;
-        self.waiting.push_back_reserved(slot);
+        if self.places.free() == 0 {
+            let slot = self.numbers.len() as u32;
+            self.numbers.push_reserved(number);
+            self.places.wait(slot);
+            return slot;
+        }
+        let slot = self.places.reuse();
+        self.numbers[slot as usize] = number;
         slot
     }
 
@@ -103,7 +106,7 @@ impl UnitSlots {
         requires { place < length self.now.waiting }
         ensures { slice_get self.now.waiting place ≡ Some result }
     {
-        self.waiting[place as usize]
+        self.places.at(place as usize)
     }
 
     /// The number of a slot's record.
@@ -111,25 +114,24 @@ impl UnitSlots {
         requires { IsSome (number_at self.now slot) }
         ensures { number_at self.now slot ≡ Some result }
     {
-        *self.numbers.get(slot as usize).unwrap()
+        self.numbers[slot as usize]
     }
 
-    /// Takes the first slot out of the queue.
+    /// Takes the first slot out of those that wait.
     pub fn hold(&mut self) -> u32
         requires { 0 < length self.old.waiting }
         ensures waited { self.old.waiting ≡ result ∷ self.new.waiting }
         ensures same { self.new ≡ record self.old { waiting = self.new.waiting } }
     {
-        match self.waiting.pop_front() {
-            Some(slot) => slot,
-            None => unreachable!(),
-        }
+        self.places.hold()
     }
 
+    /// Lets a slot that does not wait be free again.
     pub fn release(&mut self, slot: u32)
-        requires { IsSome (number_at self.old slot) }
+        requires there { IsSome (number_at self.old slot) }
+        requires waits { waits_in self.old.waiting slot ≡ false }
         ensures { DropsNumber self.old self.new slot }
     {
-        self.numbers.try_remove(slot as usize);
+        self.places.release(slot);
     }
 }

@@ -1,4 +1,4 @@
-use Rattle.std.proofs.Common.{◌≡◌, ◌∙◌, List, Some, sym, ap}
+use Rattle.std.proofs.Common.{◌≡◌, ◌∙◌, Some, sym, ap}
 use Rattle.std.specs.Prelude.{slice_get}
 use Rattle.wg_slots.specs.SlotsOf.{slots_at, free_of}
 use Rattle.wg_slots.specs.Kept.{IsSound, shown}

@@ -1,4 +1,4 @@
-use Rattle.std.proofs.Common.{◌≡◌, List, Some, length, refl, sym, ap, subst, arith}
+use Rattle.std.proofs.Common.{◌≡◌, Some, length, refl, sym, ap, subst, arith}
 use Rattle.std.specs.Prelude.{slice_get, slice_set}
 use Rattle.wg_slots.specs.SlotsOf.{SlotsOf, slots_at, waiting_of, HoldsFirst}
 use Rattle.wg_slots.specs.Kept.{Kept, IsSound, shown}

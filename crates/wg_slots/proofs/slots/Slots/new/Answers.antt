@@ -1,4 +1,4 @@
-use Rattle.std.proofs.Common.{List, length}
+use Rattle.std.proofs.Common.{length}
 use Rattle.wg_slots.proofs.Rows.{all_are_free, length_shown}
 use Rattle.wg_slots.proofs.slots.Slots.new.Goals as goal
 

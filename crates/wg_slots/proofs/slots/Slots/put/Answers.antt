@@ -1,14 +1,14 @@
-use Rattle.std.proofs.Common.{◌≡◌, ◌∙◌, ◌<◌, ℕ, List, Some, length, map, ◌++◌, [], ◌∷◌, ◌+◌, sym, ap, subst, arith}
+use Rattle.std.proofs.Common.{◌≡◌, ◌∙◌, ◌<◌, ℕ, List, Some, length, map, ◌++◌, [], ◌∷◌, sym, ap, subst, arith}
 use Rattle.std.specs.Prelude.{slice_get, slice_set}
 use Rattle.wg_slots.specs.SlotsOf.{SlotsOf, slots_at, free_of, Puts}
 use Rattle.wg_slots.specs.Kept.{Kept, IsSound, KeepsNumber, shown, start_of, end_of}
 use Rattle.wg_slots.specs.Layout.{IsLaid, IsWritten}
 use Rattle.wg_slots.proofs.Rows.{unit_there, unit_shown, laid_set, both_at, others_stay, units_apart, lies_at, slot_ends, whole_again}
-use Rattle.wg_slots.proofs.Units.{free_some, sound_few, puts, put_kept, sound_put}
+use Rattle.wg_slots.proofs.Units.{free_some, puts, put_kept, sound_put}
 use Rattle.wg_slots.proofs.slots.Slots.put.Goals as goal
 
-pub put-slot-requires-clause-free : goal.put-slot-requires-clause-free
-put-slot-requires-clause-free c =
+pub put-slot-requires : goal.put-slot-requires
+put-slot-requires c =
     let k = c.index_mut-slots.result.now in
     let ks = c.self.inside.units.items in
     let a = c.self.inside.block.items in
@@ -19,20 +19,6 @@ put-slot-requires-clause-free c =
     let is : slots_at old u ≡ shown a k = unit_shown old a ks u k c.self.view_is there in
     let free = free_some a k (subst (λ (s : SlotsOf). 0 < free_of s) is c.requires.free) in
     free
-
-pub put-slot-requires-clause-few : goal.put-slot-requires-clause-few
-put-slot-requires-clause-few c =
-    let k = c.index_mut-slots.result.now in
-    let ks = c.self.inside.units.items in
-    let a = c.self.inside.block.items in
-    let u = c.args.unit in
-    let old = c.args.self.now in
-    let there : slice_get ks u ≡ Some k = unit_there old a ks u k c.self.view_is c.requires.unit c.index_mut-slots.ensures.value in
-    let sound : IsSound k = c.self.invariant.sound u k there in
-    let is : slots_at old u ≡ shown a k = unit_shown old a ks u k c.self.view_is there in
-    let free = free_some a k (subst (λ (s : SlotsOf). 0 < free_of s) is c.requires.free) in
-    let few = sound_few k sound in
-    omega arith
 
 pub start-start-requires-clause-within : goal.start-start-requires-clause-within
 start-start-requires-clause-within c =

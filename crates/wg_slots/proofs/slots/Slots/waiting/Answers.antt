@@ -1,4 +1,4 @@
-use Rattle.std.proofs.Common.{◌≡◌, ◌∙◌, List, Some, length, sym, ap, arith}
+use Rattle.std.proofs.Common.{◌≡◌, ◌∙◌, Some, length, sym, ap, arith}
 use Rattle.std.specs.Prelude.{slice_get}
 use Rattle.wg_slots.specs.SlotsOf.{SlotsOf, slots_at, waiting_of}
 use Rattle.wg_slots.specs.Kept.{IsSound, shown}

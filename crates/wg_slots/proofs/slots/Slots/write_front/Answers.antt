@@ -1,10 +1,10 @@
-use Rattle.std.proofs.Common.{◌≡◌, ◌∙◌, ℕ, List, Some, length, sym, ap, subst, arith}
+use Rattle.std.proofs.Common.{◌≡◌, ◌∙◌, ℕ, Some, length, sym, ap, subst, arith}
 use Rattle.std.specs.Prelude.{IsSome, slice_get}
 use Rattle.wg_slots.specs.SlotsOf.{SlotsOf, slots_at, record_at, waiting_of, Writes}
 use Rattle.wg_slots.specs.Kept.{IsSound, shown}
 use Rattle.wg_slots.proofs.Records.{waits_at, same_some}
 use Rattle.wg_slots.proofs.Rows.{unit_there, unit_shown}
-use Rattle.wg_slots.proofs.Units.{waiting_length, record_there, writes}
+use Rattle.wg_slots.proofs.Units.{waiting_length, record_there}
 use Rattle.wg_slots.proofs.slots.Slots.write_front.Goals as goal
 
 pub slot_at-first-requires : goal.slot_at-first-requires

@@ -4,12 +4,14 @@
 
 mod entries;
 mod group;
+mod laws;
 mod opening;
 mod records;
 mod stock;
 
 pub use entries::next_entry;
 pub use group::group_at;
+pub use laws::groups_are_counted;
 pub use opening::Opening;
 pub use records::front_records;
 pub use stock::Stock;

@@ -1,8 +1,9 @@
 -- The needs of a unit, and when each of them is met.
-use Rattle.std.proofs.Common.{◌≡◌, ℕ, Bool, suc, ◌+◌, ◌<◌, ◌≤◌, List, [], ◌∷◌, length, All, slice_index, slice_get, get_or, unwrap_or, refl, sym, arith, inl, inr, IsTrue, ◌↔◌, ◌++◌, take, drop, ◌^◌}
+use Rattle.std.proofs.Common.{◌≡◌, ℕ, Bool, suc, ◌+◌, ◌<◌, ◌≤◌, List, [], ◌∷◌, length, All, slice_index, slice_get, get_or, unwrap_or, refl, sym, arith, inl, inr, ◌⊎◌, true, false, IsTrue, ◌↔◌, ◌++◌, take, drop, ◌^◌}
 use Rattle.std.proofs.lemmas.Grind.{common_steps}
-use Rattle.std.proofs.lemmas.Bool.Decides.{eqb_tells}
-use Rattle.std.proofs.lemmas.Option.{unwrap_or-slice_get}
+use Rattle.std.specs.Prelude.{nat_lt}
+use Rattle.std.proofs.lemmas.Bool.Decides.{eqb_tells, nat_tests}
+use Rattle.std.proofs.lemmas.Option.{slice_get_past, unwrap_or-slice_get}
 use Rattle.wg_need.specs.declared.table.Need.{Need}
 use Rattle.wg_need.specs.Rows.{need_in, IsSoundRow}
 use Rattle.wg_room.specs.Counts.{Counts, need_at, HasSlotsLeft, Reserves}
@@ -22,6 +23,32 @@ need_found (n ∷ needs) v some =
           let rest : 0 < need_in needs v = omega (arith, rw other.0 at some) in
           let found = need_found needs v rest in
           (suc found.0, omega (arith, found.1), λ d. found.2 d)
+    ]
+
+-- what is needed is of one of so many units
+pub need_within : (count : ℕ) (rows : List (List Need)) (u v : ℕ) → All (IsSoundRow count) rows → 0 < need_in (unwrap_or (slice_get rows u) []) v → v < count
+need_within count rows u v all some =
+    let sound : IsSoundRow count (unwrap_or (slice_get rows u) []) = any rows u all in
+    let found = need_found (unwrap_or (slice_get rows u) []) v some in
+    let none : Need = record { unit = 0; records = 0 } in
+    let is = found.2 none in
+    let w = (sound found.0 none found.1).within in
+    omega (arith, w, is)
+  where
+    nothing : IsSoundRow count []
+    nothing k d h = absurd (omega (arith, h))
+
+    either : (a b : ℕ) → (a < b) ⊎ (b ≤ a)
+    either a b = choice (nat_lt a b) refl
+      where
+        choice : (t : Bool) → nat_lt a b ≡ t → (a < b) ⊎ (b ≤ a)
+        choice true e = inl (grind (arith, nat_tests))
+        choice false e = inr (grind (arith, nat_tests))
+
+    any : (rows : List (List Need)) (u : ℕ) → All (IsSoundRow count) rows → IsSoundRow count (unwrap_or (slice_get rows u) [])
+    any rows u all = elim (either u (length rows)) [
+      | inl h ↦ row_sound count rows u all h
+      | inr h ↦ rw (slice_get_past rows u h) nothing
     ]
 
 pub met_has_room : (count : ℕ) (bounds used reserved : List ℕ) (needs : List Need) → IsSoundRow count needs → All (IsMet bounds used reserved) needs

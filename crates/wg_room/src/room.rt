@@ -39,6 +39,7 @@ impl Room {
         ensures used { IfOk result (λ room. room.used ≡ replicate (length bounds.now) 0) }
         ensures reserved { IfOk result (λ room. room.reserved ≡ replicate (length bounds.now) 0) }
         ensures needs { IfOk result (λ room. (u v : ℕ) → v < length bounds.now → need_at room u v ≡ need shape.now u v) }
+        ensures within { IfOk result (λ room. (u v : ℕ) → 0 < need_at room u v → v < length bounds.now) }
     {
         Ok(Room {
             bounds: Vec::from_slice(alloc, bounds)?,

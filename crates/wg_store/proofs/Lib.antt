@@ -1,0 +1,12 @@
+pub mod Begins
+pub mod Bests
+pub mod Choices
+pub mod Found
+pub mod Keeps
+pub mod Launches
+pub mod Lives
+pub mod Opens
+pub mod Settles
+pub mod Sights
+pub mod Stepping
+pub mod Taken

@@ -1,0 +1,4 @@
+pub mod Best
+pub mod Items
+pub mod Keep
+pub mod Laws

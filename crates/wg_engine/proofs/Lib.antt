@@ -5,4 +5,5 @@ pub mod Openings
 pub mod Serving
 pub mod Settlings
 pub mod Stands
+pub mod Stopped
 pub mod Views

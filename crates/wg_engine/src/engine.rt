@@ -4,12 +4,13 @@ ghost use Rattle.wg_words.specs.Each.{Each};
 ghost use Rattle.wg_machine.specs.declared.launch.Entry.{Entry as Line};
 ghost use Rattle.wg_machine.specs.declared.launch.Sent.{Sent as SentOf};
 ghost use Rattle.wg_machine.specs.Buffers.{Buffers as AllWords};
+ghost use Rattle.wg_machine.specs.GoodShape.{IsGoodShape};
 ghost use Rattle.wg_machine.specs.LaunchMeaning.{KeepsLaws, Meaning};
 ghost use Rattle.wg_guess.specs.Guesses.{IsTrueOf};
 ghost use Rattle.wg_standing.specs.declared.pending.Pending.{Pending};
 ghost use Rattle.wg_standing.specs.Idle.{IsOut, SomeIsOut};
 ghost use Rattle.wg_standing.specs.Moves.{with_kept};
-ghost use Rattle.wg_standing.specs.Standing.{StandsFor};
+ghost use Rattle.wg_standing.specs.Standing.{IsPlaced, StandsFor};
 
 use crate::keeping::{Keeping, Out};
 use crate::report::{Report, end_of, without_tail};
@@ -105,6 +106,22 @@ impl<K: Keeping + Drop> Core<K> {
         }
     }
 
+    /// What holds of every core: its shape is good, its records are in their places, and it has a buffer for each of the shape.
+    pub fn keeps_laws(&self)
+        ensures good { IsGoodShape self.now.shape }
+        ensures placed { IsPlaced self.now self.now.bag }
+        ensures buffers { length self.now.buffers ≡ length self.now.shape.buffers }
+        ensures stopped_is_out { IfSome self.now.stopped (SomeIsOut self.now) }
+    {
+        // A use of a field tells the proof what its model keeps.
+        let _ = &self.alloc;
+    }
+
+    /// The allocator of a core's memory.
+    pub fn allocator(&self) -> Global {
+        self.alloc
+    }
+
     /// The least ticket that is out.
     pub fn first_out(&self) -> Option<u64>
         ensures some { IfSome result (IsFirstOut self.now.outs) }
@@ -185,7 +202,7 @@ impl<K: Keeping + Drop> Core<K> {
             → StandsFor made script start_buffers self.old → StandsFor made script start_buffers self.new }
     {
         openings_stand();
-        let _ = &self.alloc;
+        self.keeps_laws();
         self.opened()
     }
 
@@ -234,7 +251,7 @@ impl<K: Keeping + Drop> Core<K> {
         settlings_stand();
         keepings_stand();
         stoppings_stand();
-        let _ = &self.alloc;
+        self.keeps_laws();
         self.settled(bodies, ticket, guess)
     }
 
@@ -289,7 +306,7 @@ impl<K: Keeping + Drop> Core<K> {
         ensures { (before : List Pending) (o : Pending) (later : List Pending) → IsOut self.now ticket before o later
             → IsTrue result ↔ IsServing self.now o guess.now }
     {
-        let _ = &self.alloc;
+        self.keeps_laws();
         !guess.spent() && self.keep.is_now(ticket, guess.launch()) && guess.agrees(&self.buffers)
     }
 

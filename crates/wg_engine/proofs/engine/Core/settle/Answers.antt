@@ -4,8 +4,6 @@ use Rattle.wg_machine.specs.declared.launch.Launch.{Launch}
 use Rattle.wg_machine.specs.Buffers.{Buffers}
 use Rattle.wg_machine.specs.GoodShape.{IsGoodShape}
 use Rattle.wg_machine.specs.LaunchMeaning.{FitsShape, KeepsLaws}
-use Rattle.wg_standing.specs.Core.{CoreView}
-use Rattle.wg_engine.specs.Inside.{IsSoundCore}
 use Rattle.wg_engine.proofs.Serving.{kept_or_wants}
 use Rattle.wg_engine.proofs.Stands.{StandingLaws, stands_settled}
 use Rattle.wg_engine.proofs.engine.Core.settle.Goals as goal
@@ -13,7 +11,7 @@ use Rattle.wg_engine.proofs.engine.Core.settle.Goals as goal
 pub returns-clause-stands : goal.returns-clause-stands
 returns-clause-stands g c =
     let laws : StandingLaws = record { fit = c.outs_fit.ensures; settle = c.settlings_stand.ensures; keep = c.keepings_stand.ensures; stop = c.stoppings_stand.ensures } in
-    let good = subst (λ (n : CoreView). IsGoodShape n.shape) c.self.view_is c.self.invariant.good in
+    let good = c.keeps_laws.ensures.good in
     λ script start h.
     stands_settled laws _ script start _ _ c.args.ticket c.args.guess c.settled.result
     good
@@ -24,6 +22,5 @@ pub returns-clause-serving : goal.returns-clause-serving
 returns-clause-serving g c =
     let made = g.B.Bodies.made c.args.bodies.now in
     let now = c.args.self.now in
-    let sound : IsSoundCore now c.self.inside.spent = subst (λ (n : CoreView). IsSoundCore n c.self.inside.spent) c.self.view_is c.self.invariant in
     λ before o later out free serves.
-    kept_or_wants (g.B.Bodies.graph c.args.bodies.now) made now c.settled.new.self c.args.ticket c.args.guess c.settled.result before o later sound.placed c.requires.truth c.settled.ensures out free serves
+    kept_or_wants (g.B.Bodies.graph c.args.bodies.now) made now c.settled.new.self c.args.ticket c.args.guess c.settled.result before o later c.keeps_laws.ensures.placed c.requires.truth c.settled.ensures out free serves

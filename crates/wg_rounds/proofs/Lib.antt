@@ -1,0 +1,5 @@
+pub mod Choosing
+pub mod Opening
+pub mod Running
+pub mod Same
+pub mod Settling

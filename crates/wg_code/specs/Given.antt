@@ -1,6 +1,6 @@
 -- The scope that the check of a body is given.
 use Rattle.wg_code.specs.Valid.{Scope}
-use Rattle.wg_code.specs.declared.valid.Scope.{Scope as Given}
+use Rattle.wg_code.specs.declared.scope.Scope.{Scope as Given}
 
 abbrev pub scope_of : Given → Scope
 scope_of k = record {

@@ -1,5 +1,6 @@
 pub mod CodeMeaning
 pub mod Counts
+pub mod Fits
 pub mod Flow
 pub mod FrameMeaning
 pub mod Functions

@@ -6,8 +6,10 @@ mod code;
 mod counts;
 mod frame;
 mod laws;
+mod leaves;
 mod nodes;
 mod op;
+mod scope;
 mod valid;
 
 pub use checked::{Code, validate};

@@ -8,7 +8,8 @@ ghost use Rattle.wg_state.specs.Lanes.{lanes_in};
 
 use crate::code::{Function, Handle, NodeCode, Part, RawCode};
 use crate::counts::part_list_requests;
-use crate::valid::{Scope, ops_fit};
+use crate::scope::Scope;
+use crate::valid::ops_fit;
 use wg_machine::{Kind, Unit};
 use wg_words::Word;
 use wg_words::limits::{MOST_CODE_WEIGHT, MOST_LANES, MOST_SHARED_WORDS};

@@ -13,7 +13,7 @@ use Rattle.wg_machine.specs.declared.memory.Seen.{Seen}
 use Rattle.wg_machine.specs.declared.memory.Write.{Write}
 use Rattle.wg_operations.specs.Says.{Keeps}
 use Rattle.wg_operations.specs.declared.end.End.{End}
-use Rattle.wg_lane.specs.Silence.{LogsNothing}
+use Rattle.wg_control.specs.Silence.{LogsNothing}
 use Rattle.wg_group.specs.Running.{Went, Kept}
 
 pub both_left : (a b : Bool) → (a && b) ≡ true → a ≡ true

@@ -1,12 +1,12 @@
 ghost use Rattle.std.specs.Prelude.{◌≡◌, ◌≢◌, ◌≤◌, ◌<◌, ◌+◌, ◌*◌, false, Some, length, ℕ};
 ghost use Rattle.wg_code.specs.CodeMeaning.{node_does};
 ghost use Rattle.wg_code.specs.PartMeaning.{lane_runs, lanes_run, first_runs};
-ghost use Rattle.wg_lane.specs.Silence.{reads_nothing};
+ghost use Rattle.wg_control.specs.Silence.{reads_nothing};
 ghost use Rattle.wg_group.specs.Running.{Runs, Kept, row_at, rows_from};
 
 use std::alloc::Global;
 use wg_code::{NodeCode, Op, RawCode};
-use wg_lane::{GroupSpot, around, run_body};
+use wg_control::{GroupSpot, around, run_body};
 use wg_machine::{Halt, Launch, Memory, Unit};
 use wg_operations::Spare;
 use wg_registers::Outside;

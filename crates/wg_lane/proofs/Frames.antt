@@ -26,7 +26,7 @@ use Rattle.wg_operations.specs.declared.end.End.{End}
 use Rattle.wg_operations.specs.declared.end.End.TheVariants as end
 use Rattle.wg_lane.specs.Frames.{frame_site, IsOpened}
 use Rattle.wg_lane.specs.LaneSays.{MakesFrame, SpendsFrame}
-use Rattle.wg_lane.specs.Silence.{reads_nothing, LogsNothing}
+use Rattle.wg_control.specs.Silence.{reads_nothing, LogsNothing}
 use Rattle.wg_lane.specs.declared.lane.Opened.{Opened}
 
 some_is : {X : Type 0} (x y : X) → Some x ≡ Some y → x ≡ y

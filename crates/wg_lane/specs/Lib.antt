@@ -1,4 +1,3 @@
 pub mod Frames
 pub mod LaneSays
-pub mod Loops
-pub mod Silence
+pub use Rattle.wg_control.specs.Silence

@@ -14,12 +14,11 @@ ghost use Rattle.wg_registers.specs.Given.{around_of};
 ghost use Rattle.wg_operations.specs.Says.{Runs, Keeps};
 ghost use Rattle.wg_lane.specs.Frames.{IsOpened};
 ghost use Rattle.wg_lane.specs.LaneSays.{MakesFrame, SpendsFrame};
-ghost use Rattle.wg_lane.specs.Silence.{reads_nothing, LogsNothing};
+ghost use Rattle.wg_control.specs.Silence.{reads_nothing, LogsNothing};
 
-use crate::body::run_body;
-use crate::start::{GroupSpot, around};
 use std::alloc::{AllocError, Global};
 use wg_code::{Code, Frame, Grants, Op, Ops, RawCode, bodies_go_through};
+use wg_control::{GroupSpot, around, run_body};
 use wg_machine::{Halt, Memory, Record, Records};
 use wg_operations::{End, Spare};
 use wg_registers::{Around, Outside, SharedWords};

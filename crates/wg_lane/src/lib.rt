@@ -1,10 +1,6 @@
-//! Runs the bodies of node code on a lane, over any memory, without tests of what they name.
+//! Runs a body of node code on a frame of its lane, over any memory.
 #![tactic(auto)]
 
-mod body;
 mod lane;
-mod start;
 
-pub use body::run_body;
 pub use lane::run_lane;
-pub use start::{GroupSpot, around};

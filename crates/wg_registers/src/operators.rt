@@ -42,6 +42,7 @@ pub fn prefix(op: u32, a: Word) -> Word
 }
 
 /// An operator on two words, by its number.
+#[inline(always)]
 pub fn combine(op: u32, a: Word, b: Word) -> Word
     ensures { result ≡ binary 32 op a b }
 {

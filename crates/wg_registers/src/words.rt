@@ -5,6 +5,7 @@ ghost use Rattle.wg_code.specs.Operators.{paired};
 use wg_words::Word;
 
 /// A word, 0 behind the end.
+#[inline(always)]
 pub fn word(words: &[Word], at: u32) -> Word
     ensures { result ≡ slice_index words.now at }
 {
@@ -16,6 +17,7 @@ pub fn word(words: &[Word], at: u32) -> Word
 }
 
 /// Sets a word; behind the end nothing is.
+#[inline(always)]
 pub fn put(words: &mut [Word], at: u32, value: Word)
     ensures { words.new ≡ slice_set words.old at value }
 {

@@ -1,7 +1,7 @@
 use Rattle.std.proofs.Common.{false, Some}
 use Rattle.std.proofs.lemmas.Result.{err_from_is_err_and}
 use Rattle.wg_code.specs.CodeMeaning.{node_does}
-use Rattle.wg_lane.specs.Silence.{reads_nothing}
+use Rattle.wg_control.specs.Silence.{reads_nothing}
 use Rattle.wg_group.specs.Running.{row_at, rows_from}
 use Rattle.wg_group.proofs.Going.{lanes_next, lanes_stop}
 use Rattle.wg_group.proofs.Growth.{went_then}

@@ -1,7 +1,7 @@
 use Rattle.std.proofs.Common.{false}
 use Rattle.wg_code.specs.CodeMeaning.{node_does}
 use Rattle.wg_code.specs.PartMeaning.{lanes_run}
-use Rattle.wg_lane.specs.Silence.{reads_nothing}
+use Rattle.wg_control.specs.Silence.{reads_nothing}
 use Rattle.wg_group.specs.Running.{rows_from, Went}
 use Rattle.wg_group.proofs.Going.{Rest, Left}
 use Rattle.wg_group.proofs.lanes.run_lanes.Given as goal

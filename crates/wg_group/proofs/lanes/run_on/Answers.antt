@@ -5,7 +5,7 @@ use Rattle.wg_code.specs.CodeMeaning.{node_does}
 use Rattle.wg_code.specs.Functions.{in_function, callees}
 use Rattle.wg_code.specs.Lane.{Around}
 use Rattle.wg_code.specs.OpMeaning.{ops_do}
-use Rattle.wg_lane.specs.Silence.{reads_nothing, LogsNothing}
+use Rattle.wg_control.specs.Silence.{reads_nothing, LogsNothing}
 use Rattle.wg_operations.specs.Says.{Runs}
 use Rattle.wg_operations.specs.declared.end.End.{End}
 use Rattle.wg_group.proofs.Going.{lane_ends, lane_stops}

@@ -7,7 +7,7 @@ use Rattle.wg_code.specs.declared.op.Op.{Op, roll-Op, fold-roll-Op, ind-Op, map-
 use Rattle.wg_code.specs.declared.op.Op.TheOpen.{Op-F}
 use Rattle.wg_code.specs.declared.op.Op.TheVariants as o
 use Rattle.wg_leaves.specs.Leaves.{leaf_step, leaf_does}
-use Rattle.wg_lane.proofs.Rest.{Act}
+use Rattle.wg_control.proofs.Rest.{Act}
 
 pub record NotControl (op : Op) : Type 0 where
   pub not_If : (a : ℕ) (first second : List Op) → op ≡ o.If a first second → ⊥

@@ -17,8 +17,8 @@ use Rattle.wg_operations.specs.Says.{exit_of, Says, Runs, passes, goes_round}
 use Rattle.wg_operations.specs.declared.end.End.{End}
 use Rattle.wg_operations.specs.declared.end.End.TheVariants as end
 use Rattle.wg_leaves.specs.Going.{Kept}
-use Rattle.wg_lane.specs.Loops.{comes_again}
-use Rattle.wg_lane.proofs.Growth.{back}
+use Rattle.wg_control.specs.Loops.{comes_again}
+use Rattle.wg_control.proofs.Growth.{back}
 
 abbrev pub Act : Type 0
 Act = Action Site Exit

@@ -14,7 +14,7 @@ use Rattle.wg_machine.specs.declared.memory.Write.{Write}
 use Rattle.wg_operations.specs.Says.{Keeps}
 use Rattle.wg_operations.specs.declared.end.End.{End}
 use Rattle.wg_leaves.specs.Going.{GoesOn, Kept}
-use Rattle.wg_lane.specs.Silence.{LogsNothing}
+use Rattle.wg_control.specs.Silence.{LogsNothing}
 
 pub both_left : (a b : Bool) → (a && b) ≡ true → a ≡ true
 both_left true b e = refl

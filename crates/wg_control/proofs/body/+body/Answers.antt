@@ -1,7 +1,10 @@
 use Rattle.std.proofs.lemmas.Result.{err_from_is_err_and}
+use Rattle.std.proofs.Math.ListN.{drop_of_length-le}
+use Rattle.std.proofs.lemmas.List.{take_rest}
 use Rattle.std.proofs.Common.{◌≡◌, ℕ, suc, ◌+◌, ◌-◌, ◌*◌, false, List, length, drop, sym, ap, ◌∙◌, arith}
 use Rattle.std.specs.Prelude.{◌&&◌, Ok, Err}
 use Rattle.std.specs.Option.{option_copied}
+use Rattle.wg_machine.specs.Agreement.{now_of}
 use Rattle.wg_code.specs.Flow.{loop as looped, call as called, through}
 use Rattle.wg_code.specs.Functions.{in_function, callees, body_runs}
 use Rattle.wg_code.specs.Lane.{set_all}
@@ -10,38 +13,63 @@ use Rattle.wg_registers.specs.Given.{around_of, site_of}
 use Rattle.wg_operations.specs.Says.{exit_of}
 use Rattle.wg_leaves.specs.Going.{is_quiet_op}
 use Rattle.wg_leaves.specs.Leaves.{leaf_does}
-use Rattle.wg_lane.specs.Loops.{functions_quiet, loop_reads_nothing}
-use Rattle.wg_lane.specs.Silence.{reads_nothing}
-use Rattle.wg_lane.proofs.Calls.{nothing_called, none_nested, none_there, one_there, called_same, function_ends, function_stops, whole_again}
-use Rattle.wg_lane.proofs.Growth.{both_right, goes_then, goes_weaker, kept_error, kept_weaker}
-use Rattle.wg_lane.proofs.Layers.{if_first, if_second, loop_is, call_is, next_op, quiet_within, quiet_called, turn_kept, inner_runs}
-use Rattle.wg_lane.proofs.Leaf.{op_is_leaf}
-use Rattle.wg_lane.proofs.Rest.{Act, along, goes, same, through_on, step_ends, step_breaks, loop_stops, loop_ends, loop_repeats}
-use Rattle.wg_lane.proofs.Sizes.{functions_size, op_within, function_within, one_less}
-use Rattle.wg_lane.proofs.body.+body.Goals as goal
+use Rattle.wg_control.specs.Loops.{functions_quiet, loop_reads_nothing}
+use Rattle.wg_control.specs.Silence.{reads_nothing}
+use Rattle.wg_control.proofs.Calls.{nothing_called, none_nested, none_there, one_there, called_same, function_ends, function_stops, whole_again}
+use Rattle.wg_control.proofs.Front.{behind, set_before, quiet_behind, count_behind}
+use Rattle.wg_control.proofs.Growth.{both_right, goes_then, goes_weaker, kept_error, kept_weaker}
+use Rattle.wg_control.proofs.Layers.{if_first, if_second, loop_is, call_is, next_op, quiet_within, quiet_called, turn_kept, inner_runs}
+use Rattle.wg_control.proofs.Leaf.{op_is_leaf}
+use Rattle.wg_control.proofs.Rest.{Act, along, goes, same, through_on, step_ends, step_breaks, loop_stops, loop_ends, loop_repeats}
+use Rattle.wg_control.proofs.Sizes.{functions_size, op_within, function_within, one_less}
+use Rattle.wg_control.proofs.body.+body.Goals as goal
 
 -- ---- operations in order
 
-pub run_ops-run_op-requires : goal.run_ops-run_op-requires
-run_ops-run_op-requires g t c κs within =
+pub run_ops-run_each-requires : goal.run_ops-run_each-requires
+run_ops-run_each-requires g t c κs within =
+    (let le = count_behind c.args.ops.now c.run_front-done.result in omega (arith, le), within)
+
+pub run_ops-returns-then-done-ops-clause-says : goal.run_ops-returns-then-done-ops-clause-says
+run_ops-returns-then-done-ops-clause-says g t c = λ start a.
+    let A = around_of c.args.around.now in
+    let C = callees false (in_function A) c.args.depth in
+    let b = now_of (g.M.Memory.trace c.args.mem.now) start in
+    c.run_front-done.ensures.sets A C c.args.s.now b c.args.s.now.turns
+    ∙ ap (λ l. ops_do false A C l (site_of c.run_front-done.new.registers c.args.s.now b) c.args.s.now.turns) (drop_of_length-le c.args.ops.now c.if-done-ops.true)
+
+pub run_ops-returns-clause-says : goal.run_ops-returns-clause-says
+run_ops-returns-clause-says g t c =
+    let A = around_of c.args.around.now in
+    let C = callees false (in_function A) c.args.depth in
+    set_before (ops_do false A C c.args.ops.now) (ops_do false A C (behind c.args.ops.now c.run_front-done.result)) c.args.registers.now c.run_front-done.new.registers c.args.s.now (g.M.Memory.trace c.args.mem.now) c.run_each.result c.run_each.new.registers c.run_each.new.s (g.M.Memory.trace c.run_each.new.mem)
+    (λ b. c.run_front-done.ensures.sets A C c.args.s.now b c.args.s.now.turns ∙ ap (λ l. ops_do false A C l (site_of c.run_front-done.new.registers c.args.s.now b) c.args.s.now.turns) (sym (take_rest c.args.ops.now c.run_front-done.result))) c.run_each.ensures.says
+
+pub run_ops-returns-clause-kept : goal.run_ops-returns-clause-kept
+run_ops-returns-clause-kept g t c =
+    let fs = c.args.around.now.functions.now in
+    kept_weaker (reads_nothing fs c.args.ops.now) (reads_nothing fs (behind c.args.ops.now c.run_front-done.result)) (quiet_behind (functions_quiet fs) c.args.ops.now c.run_front-done.result) c.args.s.now.turns c.run_each.new.s.turns (g.M.Memory.trace c.args.mem.now) c.run_each.result (g.M.Memory.trace c.run_each.new.mem) c.run_each.ensures.kept
+
+pub run_each-run_op-requires : goal.run_each-run_op-requires
+run_each-run_op-requires g t c κs within =
     (let le = op_within c.args.ops.now c.loop-op.op-index c.op-item.result c.op-item.is c.loop-op-test.true in omega (arith, le), within)
 
-pub run_ops-returns-in_err-end-clause-kept : goal.run_ops-returns-in_err-end-clause-kept
-run_ops-returns-in_err-end-clause-kept g t c =
+pub run_each-returns-in_err-end-clause-kept : goal.run_each-returns-in_err-end-clause-kept
+run_each-returns-in_err-end-clause-kept g t c =
     let p = err_from_is_err_and c.from_residual.result c.from_residual.ensures.1 in
     let fs = c.args.around.now.functions.now in
     rw (p.1, p.2)
     (kept_error (reads_nothing fs c.args.ops.now) c.args.s.now.turns c.loop-op.s.turns c.run_op.new.s.turns (g.M.Memory.trace c.args.mem.now) (g.M.Memory.trace c.loop-op.mem) c.in_err-end.field-0.0 (g.M.Memory.trace c.run_op.new.mem) c.loop-op.invariant.1
     (kept_weaker (reads_nothing fs c.args.ops.now) (functions_quiet fs && is_quiet_op c.op-item.result) (quiet_within (functions_quiet fs) c.args.ops.now c.loop-op.op-index c.op-item.result c.op-item.is c.loop-op-test.true) c.loop-op.s.turns c.run_op.new.s.turns (g.M.Memory.trace c.loop-op.mem) (Err c.in_err-end.field-0.0) (g.M.Memory.trace c.run_op.new.mem) c.in_err-end.ensures.kept))
 
-pub run_ops-returns-then-not-goes_through-clause-kept : goal.run_ops-returns-then-not-goes_through-clause-kept
-run_ops-returns-then-not-goes_through-clause-kept g t c =
+pub run_each-returns-then-not-goes_through-clause-kept : goal.run_each-returns-then-not-goes_through-clause-kept
+run_each-returns-then-not-goes_through-clause-kept g t c =
     let fs = c.args.around.now.functions.now in
     goes_then (reads_nothing fs c.args.ops.now) c.args.s.now.turns c.loop-op.s.turns c.run_op.new.s.turns (g.M.Memory.trace c.args.mem.now) (g.M.Memory.trace c.loop-op.mem) (g.M.Memory.trace c.run_op.new.mem) c.loop-op.invariant.1
     (goes_weaker (reads_nothing fs c.args.ops.now) (functions_quiet fs && is_quiet_op c.op-item.result) (quiet_within (functions_quiet fs) c.args.ops.now c.loop-op.op-index c.op-item.result c.op-item.is c.loop-op-test.true) c.loop-op.s.turns c.run_op.new.s.turns (g.M.Memory.trace c.loop-op.mem) (g.M.Memory.trace c.run_op.new.mem) c.in_ok-end.ensures.kept)
 
-pub run_ops-loop-op-preserved : goal.run_ops-loop-op-preserved
-run_ops-loop-op-preserved g t c =
+pub run_each-loop-op-preserved : goal.run_each-loop-op-preserved
+run_each-loop-op-preserved g t c =
     let A = around_of c.args.around.now in
     let C = callees false (in_function A) c.args.depth in
     let fs = c.args.around.now.functions.now in
@@ -57,22 +85,33 @@ run_ops-loop-op-preserved g t c =
 
 -- ---- one operation
 
-pub run_op-returns-then-word-ne0-clause-says : goal.run_op-returns-then-word-ne0-clause-says
-run_op-returns-then-word-ne0-clause-says g t c =
+pub run_op-returns-then-run_set-clause-says : goal.run_op-returns-then-run_set-clause-says
+run_op-returns-then-run_set-clause-says g t c = λ start a.
+    c.run_set.ensures.sets c.if-run_set.true (around_of c.args.around.now) (callees false (in_function (around_of c.args.around.now)) c.args.depth) c.args.s.now (now_of (g.M.Memory.trace c.args.mem.now) start) c.args.s.now.turns
+
+pub run_op-returns-clause-says : goal.run_op-returns-clause-says
+run_op-returns-clause-says g t c =
+    let A = around_of c.args.around.now in
+    let C = callees false (in_function A) c.args.depth in
+    set_before (op_does false A C c.args.op.now) (op_does false A C c.args.op.now) c.args.registers.now c.run_set.new.registers c.args.s.now (g.M.Memory.trace c.args.mem.now) c.run_other.result c.run_other.new.registers c.run_other.new.s (g.M.Memory.trace c.run_other.new.mem)
+    (λ b. ap (λ (l : List ℕ). op_does false A C c.args.op.now (site_of l c.args.s.now b) c.args.s.now.turns) (sym (c.run_set.ensures.leaves c.if-run_set.false))) c.run_other.ensures.says
+
+pub run_other-returns-then-word-ne0-clause-says : goal.run_other-returns-then-word-ne0-clause-says
+run_other-returns-then-word-ne0-clause-says g t c =
     let A = around_of c.args.around.now in
     let C = callees false (in_function A) c.args.depth in
     same (op_does false A C c.args.op.now) (ops_do false A C c.as_slice-first.result.now) c.args.registers.now c.args.s.now (g.M.Memory.trace c.args.mem.now) c.run_ops.result c.run_ops.new.registers c.run_ops.new.s (g.M.Memory.trace c.run_ops.new.mem)
     (λ b. if_first A C c.args.op.now c.args.registers.now c.args.s.now b _ _ _ c.as_slice-first.result.now c.in-If.is c.as_slice-first.ensures (λ e. c.if-word-ne0.true (c.word.ensures ∙ e))) c.run_ops.ensures.says
 
-pub run_op-returns-else-word-ne0-clause-says : goal.run_op-returns-else-word-ne0-clause-says
-run_op-returns-else-word-ne0-clause-says g t c =
+pub run_other-returns-else-word-ne0-clause-says : goal.run_other-returns-else-word-ne0-clause-says
+run_other-returns-else-word-ne0-clause-says g t c =
     let A = around_of c.args.around.now in
     let C = callees false (in_function A) c.args.depth in
     same (op_does false A C c.args.op.now) (ops_do false A C c.as_slice-second.result.now) c.args.registers.now c.args.s.now (g.M.Memory.trace c.args.mem.now) c.run_ops-else-word-ne0.result c.run_ops-else-word-ne0.new.registers c.run_ops-else-word-ne0.new.s (g.M.Memory.trace c.run_ops-else-word-ne0.new.mem)
     (λ b. if_second A C c.args.op.now c.args.registers.now c.args.s.now b _ _ _ c.as_slice-second.result.now c.in-If.is c.as_slice-second.ensures (sym c.word.ensures ∙ c.if-word-ne0.false)) c.run_ops-else-word-ne0.ensures.says
 
-pub run_op-returns-in_default-clause-says : goal.run_op-returns-in_default-clause-says
-run_op-returns-in_default-clause-says g t c =
+pub run_other-returns-in_default-clause-says : goal.run_other-returns-in_default-clause-says
+run_other-returns-in_default-clause-says g t c =
     let A = around_of c.args.around.now in
     let C = callees false (in_function A) c.args.depth in
     same (op_does false A C c.args.op.now) (leaf_does A c.args.op.now) c.args.registers.now c.args.s.now (g.M.Memory.trace c.args.mem.now) c.run_leaf.result c.run_leaf.new.registers c.run_leaf.new.s (g.M.Memory.trace c.run_leaf.new.mem)
@@ -84,20 +123,20 @@ run_op-returns-in_default-clause-says g t c =
       not_Call = c.in_default.not-Call;
     }))) c.run_leaf.ensures.says
 
-pub run_op-returns-in_default-clause-kept : goal.run_op-returns-in_default-clause-kept
-run_op-returns-in_default-clause-kept g t c =
+pub run_other-returns-in_default-clause-kept : goal.run_other-returns-in_default-clause-kept
+run_other-returns-in_default-clause-kept g t c =
     let fs = c.args.around.now.functions.now in
     kept_weaker (functions_quiet fs && is_quiet_op c.args.op.now) (is_quiet_op c.args.op.now) (both_right (functions_quiet fs) (is_quiet_op c.args.op.now)) c.args.s.now.turns c.run_leaf.new.s.turns (g.M.Memory.trace c.args.mem.now) c.run_leaf.result (g.M.Memory.trace c.run_leaf.new.mem) c.run_leaf.ensures.kept
 
-pub run_op-returns-in-Loop-clause-says : goal.run_op-returns-in-Loop-clause-says
-run_op-returns-in-Loop-clause-says g t c =
+pub run_other-returns-in-Loop-clause-says : goal.run_other-returns-in-Loop-clause-says
+run_other-returns-in-Loop-clause-says g t c =
     let A = around_of c.args.around.now in
     let C = callees false (in_function A) c.args.depth in
     same (op_does false A C c.args.op.now) (looped (ops_do false A C c.as_slice-test.result.now) c.in-Loop.a (ops_do false A C c.as_slice-body.result.now) (ops_do false A C c.as_slice-step.result.now)) c.args.registers.now c.args.s.now (g.M.Memory.trace c.args.mem.now) c.run_loop.result c.run_loop.new.registers c.run_loop.new.s (g.M.Memory.trace c.run_loop.new.mem)
     (λ b. loop_is A C c.args.op.now c.args.registers.now c.args.s.now b _ c.in-Loop.a _ _ c.as_slice-test.result.now c.as_slice-body.result.now c.as_slice-step.result.now c.in-Loop.is c.as_slice-test.ensures c.as_slice-body.ensures c.as_slice-step.ensures) c.run_loop.ensures.says
 
-pub run_op-returns-in-Call-clause-says : goal.run_op-returns-in-Call-clause-says
-run_op-returns-in-Call-clause-says g t c =
+pub run_other-returns-in-Call-clause-says : goal.run_other-returns-in-Call-clause-says
+run_other-returns-in-Call-clause-says g t c =
     let A = around_of c.args.around.now in
     let C = callees false (in_function A) c.args.depth in
     same (op_does false A C c.args.op.now) (called (C c.in-Call.function) c.as_slice-args.result.now c.as_slice-results.result.now) c.args.registers.now c.args.s.now (g.M.Memory.trace c.args.mem.now) c.run_call.result c.run_call.new.registers c.run_call.new.s (g.M.Memory.trace c.run_call.new.mem)

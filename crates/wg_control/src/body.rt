@@ -6,9 +6,10 @@ ghost use Rattle.wg_code.specs.OpMeaning.{op_does, ops_do};
 ghost use Rattle.wg_registers.specs.Given.{around_of};
 ghost use Rattle.wg_operations.specs.Says.{Runs, Keeps};
 ghost use Rattle.wg_leaves.specs.Going.{Kept, is_quiet_op};
-ghost use Rattle.wg_lane.specs.Loops.{functions_quiet, loop_reads_nothing, comes_again};
-ghost use Rattle.wg_lane.specs.Silence.{reads_nothing, LogsNothing};
+ghost use Rattle.wg_control.specs.Loops.{functions_quiet, loop_reads_nothing, comes_again};
+ghost use Rattle.wg_control.specs.Silence.{reads_nothing, LogsNothing};
 
+use crate::simple::{run_front, run_set};
 use wg_code::{Function, Op};
 use wg_leaves::run_leaf;
 use wg_machine::{Halt, Memory};
@@ -51,7 +52,30 @@ fn function_at<'a>(around: &Around<'a>, number: u32) -> Option<&'a Function>
 
 /// Runs operations until one leaves them, where calls nest at most so deep.
 #[cycle(body)]
+#[inline(always)]
 fn run_ops<M: Memory>(
+    around: &Around<'_>,
+    depth: u32,
+    spare: &mut Spare,
+    ops: &[Op],
+    registers: &mut [Word],
+    s: &mut Outside,
+    mem: &mut M,
+) -> Result<End, Halt>
+    ensures says { Runs (ops_do false (around_of around.now) (callees false (in_function (around_of around.now)) depth) ops.now) registers.old s.old (M.trace mem.old) result registers.new s.new (M.trace mem.new) }
+    ensures kept { Kept (reads_nothing around.now.functions.now ops.now) s.old.turns s.new.turns (M.trace mem.old) result (M.trace mem.new) }
+{
+    let done = run_front(ops, registers);
+    if done >= ops.len() {
+        return Ok(End::Through);
+    }
+    run_each(around, depth, spare, &ops[done..], registers, s, mem)
+}
+
+/// Runs operations until one leaves them, one by one.
+#[cycle(body)]
+#[inline(never)]
+fn run_each<M: Memory>(
     around: &Around<'_>,
     depth: u32,
     spare: &mut Spare,
@@ -74,7 +98,29 @@ fn run_ops<M: Memory>(
 
 /// Runs one operation.
 #[cycle(body)]
+#[inline(always)]
 fn run_op<M: Memory>(
+    around: &Around<'_>,
+    depth: u32,
+    spare: &mut Spare,
+    op: &Op,
+    registers: &mut [Word],
+    s: &mut Outside,
+    mem: &mut M,
+) -> Result<End, Halt>
+    ensures says { Runs (op_does false (around_of around.now) (callees false (in_function (around_of around.now)) depth) op.now) registers.old s.old (M.trace mem.old) result registers.new s.new (M.trace mem.new) }
+    ensures kept { Kept (functions_quiet around.now.functions.now && is_quiet_op op.now) s.old.turns s.new.turns (M.trace mem.old) result (M.trace mem.new) }
+{
+    if run_set(op, registers) {
+        return Ok(End::Through);
+    }
+    run_other(around, depth, spare, op, registers, s, mem)
+}
+
+/// Runs any operation.
+#[cycle(body)]
+#[inline(never)]
+fn run_other<M: Memory>(
     around: &Around<'_>,
     depth: u32,
     spare: &mut Spare,
@@ -139,6 +185,7 @@ fn run_op<M: Memory>(
 
 /// Runs a loop, turn after turn.
 #[cycle(body)]
+#[inline(never)]
 fn run_loop<M: Memory>(
     around: &Around<'_>,
     depth: u32,
@@ -198,6 +245,7 @@ fn run_turn<M: Memory>(
 
 /// Calls a function by its number; one that is not there gives nothing back.
 #[cycle(body)]
+#[inline(never)]
 fn run_call<M: Memory>(
     around: &Around<'_>,
     depth: u32,

@@ -19,10 +19,10 @@ use Rattle.wg_registers.specs.declared.outside.Outside.{Outside}
 use Rattle.wg_operations.specs.Says.{Runs}
 use Rattle.wg_operations.specs.declared.end.End.{End}
 use Rattle.wg_leaves.specs.Going.{GoesOn, is_quiet_op}
-use Rattle.wg_lane.specs.Loops.{functions_quiet, loop_reads_nothing}
-use Rattle.wg_lane.specs.Silence.{reads_nothing}
-use Rattle.wg_lane.proofs.Growth.{both_left, both_right, fewer_turns, goes_then, goes_weaker}
-use Rattle.wg_lane.proofs.Rest.{Act, Rest, along, chosen_first, chosen_second}
+use Rattle.wg_control.specs.Loops.{functions_quiet, loop_reads_nothing}
+use Rattle.wg_control.specs.Silence.{reads_nothing}
+use Rattle.wg_control.proofs.Growth.{both_left, both_right, fewer_turns, goes_then, goes_weaker}
+use Rattle.wg_control.proofs.Rest.{Act, Rest, along, chosen_first, chosen_second}
 
 module _ (A : Around) (C : Callees) where
   abbrev does_op : Op → Act
@@ -68,7 +68,7 @@ module _ (A : Around) (C : Callees) where
 
   -- ---- operations one after another
 
-  ops_at : (ops : List Op) (i : ℕ) (op : Op) → op ≡ get_or ops i op → i < length ops
+  pub ops_at : (ops : List Op) (i : ℕ) (op : Op) → op ≡ get_or ops i op → i < length ops
       → ops_do false A C (drop i ops) ≡ (op_does false A C op >>= (λ e. through e (ops_do false A C (drop (i + 1) ops))))
   ops_at ops i op e lt =
       ap (ops_do false A C) (drop-cons ops i op lt)

@@ -1,6 +1,6 @@
 -- The ranges of a struct's fields, with what all structs take.
-use Rattle.std.proofs.Common.{◌≡◌, ℕ, zero, suc, ◌+◌, ◌<◌, ◌≤◌, refl, sym, ap, ◌∙◌, List, [], ◌∷◌, ◌++◌, length, map, take, drop, Some, get_or, arith}
-use Rattle.std.specs.Prelude.{slice_get, unwrap_or}
+use Rattle.std.proofs.Common.{◌≡◌, ℕ, zero, suc, ◌+◌, ◌<◌, ◌≤◌, refl, sym, ap, ap₂, ◌∙◌, List, [], ◌∷◌, ◌++◌, length, map, take, drop, Some, get_or, arith}
+use Rattle.std.specs.Prelude.{slice_get, unwrap_or, ◌||◌}
 use Rattle.std.proofs.lemmas.List.{drop_more, append_assoc}
 use Rattle.std.proofs.lemmas.Option.{get_or_from_slice_get, slice_get_within}
 use Rattle.wg_words.specs.Each.{Each}
@@ -79,13 +79,21 @@ same_extents : (extents : List Extent) (structs : List TypedStruct) → extents_
 same_extents extents [] = refl
 same_extents extents (s ∷ rest) = same_extents (extents ++ fields_extent extents (field_types s) ∷ []) rest
 
-pub fields_end : (structs : List TypedStruct) (n : ℕ) (s : TypedStruct) → AreInOrder structs → slice_get structs n ≡ Some s → end_after (extents_of structs) 0 (field_types s) ≤ words_of structs (type.Struct n)
-fields_end structs n s order here =
+below_even : (extents : List Extent) (n : ℕ) (ts : List TypeTree) → Each (NamesBelow n) ts → has_even (take n extents) ts ≡ has_even extents ts
+below_even extents n [] h = refl
+below_even extents n (t ∷ rest) h = ap₂ (λ a b. a || b) (ap (λ (x : Extent). x.even) (below_extent extents n t h.0)) (below_even extents n rest h.1)
+
+pub fields_take : (structs : List TypedStruct) (n : ℕ) (s : TypedStruct) → AreInOrder structs → slice_get structs n ≡ Some s → extent_of structs (type.Struct n) ≡ fields_extent (extents_of structs) (field_types s)
+fields_take structs n s order here =
     let make = λ (earlier : List Extent) (s : TypedStruct). fields_extent earlier (field_types s) in
     let is : extent_of structs (type.Struct n) ≡ fields_extent (each_after make [] (take n structs)) (field_types s) =
     ap (λ l. struct_extent l n) (same_extents [] structs) ∙ one_of_all make (plain_extent 0) structs n s (slice_get_within structs n s here) (sym (get_or_from_slice_get structs n s s here)) in
     let before : take n (extents_of structs) ≡ each_after make [] (take n structs) = ap (take n) (same_extents [] structs) ∙ first_numbers make (plain_extent 0) structs n in
-    let words : words_of structs (type.Struct n) ≡ (fields_extent (take n (extents_of structs)) (field_types s)).words = ap (λ (x : Extent). x.words) is ∙ sym (ap (λ l. (fields_extent l (field_types s)).words) before) in
-    let end = below_end (extents_of structs) n 0 (field_types s) (order n s here) in
-    let least = rounded_least (has_even (take n (extents_of structs)) (field_types s)) (end_after (take n (extents_of structs)) 0 (field_types s)) in
-    omega (arith, words, end, least)
+    is ∙ ap (λ l. fields_extent l (field_types s)) (sym before)
+    ∙ ap₂ (λ even end. record { words = rounded even end; even = even }) (below_even (extents_of structs) n (field_types s) (order n s here)) (below_end (extents_of structs) n 0 (field_types s) (order n s here))
+
+pub fields_end : (structs : List TypedStruct) (n : ℕ) (s : TypedStruct) → AreInOrder structs → slice_get structs n ≡ Some s → end_after (extents_of structs) 0 (field_types s) ≤ words_of structs (type.Struct n)
+fields_end structs n s order here =
+    let words : words_of structs (type.Struct n) ≡ (fields_extent (extents_of structs) (field_types s)).words = ap (λ (x : Extent). x.words) (fields_take structs n s order here) in
+    let least = rounded_least (has_even (extents_of structs) (field_types s)) (end_after (extents_of structs) 0 (field_types s)) in
+    omega (arith, words, least)

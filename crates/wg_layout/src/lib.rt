@@ -8,7 +8,7 @@ mod parts;
 mod sizes;
 
 pub use field::{read_field, write_field};
-pub use law::values_hold_their_fields;
+pub use law::{structs_take_what_their_fields_take, values_hold_their_fields};
 pub use layouts::layout;
 pub use parts::{FieldRange, FieldRanges, Layout};
 pub use sizes::Sizes;

@@ -1,0 +1,3 @@
+pub mod Closures
+pub mod Reached
+pub mod Squares

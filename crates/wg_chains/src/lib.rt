@@ -1,0 +1,11 @@
+//! Cycles and depths of the nodes of a graph.
+#![tactic(auto)]
+
+mod closure;
+mod cycles;
+mod depths;
+mod rows;
+
+pub use cycles::first_on_cycle;
+pub use depths::{first_too_long, first_unit_depths};
+pub use rows::{Flags, Rows};

@@ -1,0 +1,16 @@
+pub mod Buildable
+pub mod Chain
+pub mod ChainTooLong
+pub mod Cycle
+pub mod FirstNode
+pub mod Level
+pub mod Limits
+pub mod Naming
+pub mod NoEntry
+pub mod NoTarget
+pub mod Places
+pub mod Records
+pub mod ShapeOf
+pub mod SparseNotAllowed
+pub mod TooManyNodes
+pub mod TwoOfOneName

@@ -1,0 +1,6 @@
+//! Values under tickets that rise.
+#![tactic(auto)]
+
+mod tickets;
+
+pub use tickets::Tickets;

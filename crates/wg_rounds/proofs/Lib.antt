@@ -1,4 +1,5 @@
 pub mod Choosing
+pub mod Firsts
 pub mod Opening
 pub mod Running
 pub mod Same

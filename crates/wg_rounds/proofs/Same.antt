@@ -9,6 +9,7 @@ use Rattle.wg_standing.specs.Core.{CoreView}
 use Rattle.wg_standing.specs.Moves.{settled_of, with_out}
 use Rattle.wg_standing.specs.Outs.{launch_now}
 use Rattle.wg_rounds.specs.Rounds.{AllRounds, AllSettle, AreNext, IsRound, NoneIsNext, RunsOut, StopsAt, with_outs}
+use Rattle.wg_rounds.proofs.Firsts.{head_or, rest_of, some_not_none}
 
 order : (a b u v : ℕ) → (b < a) ⊎ ((b ≡ a) × (u ≤ v)) → (a < b) ⊎ ((a ≡ b) × (v ≤ u)) → u ≡ v
 order a b u v (inl x) (inl y) = absurd (let h : ⊥ = omega (arith, x, y) in h)
@@ -42,14 +43,6 @@ same_round (suc n) core (o ∷ os) (p ∷ ps) a b le lf w x =
 rounds_same : (workers : ℕ) (core : CoreView) (os ps : List Pending) → IsRound workers core os → IsRound workers core ps → os ≡ ps
 rounds_same workers core os ps a b = same_round workers core os ps a.next b.next a.few b.few a.whole b.whole
 
-abbrev rest_of : List Pending → List Pending
-rest_of [] = []
-rest_of (o ∷ os) = os
-
-abbrev head_or : Pending → List Pending → Pending
-head_or d [] = d
-head_or d (o ∷ os) = o
-
 abbrev outcome_or : Outcome → Option Outcome → Outcome
 outcome_or d None = d
 outcome_or d (Some o) = o
@@ -66,9 +59,6 @@ same_settled made core (o ∷ os) a b x y =
 
 abbrev SpentAt : Meaning → CoreView → Pending → Type 0
 SpentAt made core o = made (launch_now core.shape core.bag o) core.buffers core.limits.turns ≡ None
-
-some_not_none : (a : Option Outcome) (o : Outcome) → a ≡ Some o → a ≡ None → ⊥
-some_not_none a o e f = cc
 
 -- a launch that is spent does not settle
 not_whole : (made : Meaning) (core : CoreView) (front : List Pending) (o : Pending) (later : List Pending) (a end : CoreView) → AllSettle made core front a → SpentAt made a o → AllSettle made core (front ++ o ∷ later) end → ⊥

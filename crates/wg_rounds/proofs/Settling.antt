@@ -30,20 +30,13 @@ use Rattle.wg_rounds.specs.declared.ahead.Ahead.{Ahead}
 use Rattle.wg_rounds.specs.Rounds.{AllSettle, bare}
 use Rattle.wg_rounds.specs.Ends.{NoneIsShared}
 use Rattle.wg_rounds.specs.Ahead.{AreAhead, IsFirst, IsOfFirst, NothingRead, Settling, SettlesFirst, SpendsFirst}
+use Rattle.wg_rounds.proofs.Firsts.{head_or, rest_of, some_not_none}
 
 -- ---- the launch that is out first
 
 not_later : (ticket : ℕ) (front : List Pending) (o : Pending) (later : List Pending) → IsNotOut ticket (front ++ o ∷ later) → o.ticket ≡ ticket → ⊥
 not_later ticket [] o later not named = not.0 named
 not_later ticket (p ∷ front) o later not named = not_later ticket front o later not.1 named
-
-abbrev rest_of : List Pending → List Pending
-rest_of [] = []
-rest_of (o ∷ os) = os
-
-abbrev head_or : Pending → List Pending → Pending
-head_or d [] = d
-head_or d (o ∷ os) = o
 
 none_before : (before : List Pending) (p : Pending) (after : List Pending) (o : Pending) (later : List Pending) → TicketsDiffer (o ∷ later) → o ∷ later ≡ before ++ p ∷ after → p.ticket ≡ o.ticket → before ≡ []
 none_before [] p after o later differ same named = refl
@@ -122,9 +115,6 @@ redone_settles made old new ticket g law lawful good placed f s =
     let k = s.1 in
     let step = step_is made old new ticket f.pending f.later placed.tickets_differ f.out f.named k.step in
     settles_by made old new new f.pending f.later k.step.outcome lawful (fits_first law old ticket good placed f) s.0 f.out step refl refl (omega arith) (omega arith)
-
-some_not_none : (a : Option Outcome) (o : Outcome) → a ≡ Some o → a ≡ None → ⊥
-some_not_none a o e f = cc
 
 guessed_none : (a : Option Made) (writes : List Write) (buffers : Buffers) → a ≡ None → guessed a writes buffers ≡ None
 guessed_none a writes buffers e = ap (λ (x : Option Made). guessed x writes buffers) e

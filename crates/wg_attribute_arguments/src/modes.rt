@@ -34,7 +34,7 @@ fn named_by(value: &ArgumentValue) -> Option<Mode>
 }
 
 /// The launch mode that one string names.
-fn mode_named(arguments: &[TypedArgument]) -> Option<Mode>
+pub fn mode_named(arguments: &[TypedArgument]) -> Option<Mode>
     ensures { result ≡ g.mode_named arguments.now }
 {
     match arguments {

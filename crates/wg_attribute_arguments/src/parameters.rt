@@ -42,7 +42,7 @@ pub fn kind_of(of: TypedParameterType) -> ParameterKind
 }
 
 /// `uint`, `uint2` or `uint3`.
-fn is_uint_up_to_3(of: TypeTree) -> bool
+pub fn is_uint_up_to_3(of: TypeTree) -> bool
     ensures { result ≡ t.is_uint_up_to_3 of }
 {
     match of {

@@ -1,20 +1,19 @@
-ghost use Rattle.std.specs.Prelude.{◌≡◌, ◌||◌, ◌++◌, [], ◌∷◌, List, map, is_some, IfOk, OnOk};
+ghost use Rattle.std.specs.Prelude.{◌≡◌, ◌||◌, ◌++◌, [], ◌∷◌, List, is_some, IfOk, OnOk};
 ghost use Rattle.wg_text.specs.Names.{found_in};
 ghost use Rattle.wg_typed.specs.declared.typed_stmt.TypedAttribute.{TypedAttribute as OfAttribute};
 ghost use Rattle.wg_typing.specs.AttributeNames.{standing};
 ghost use Rattle.wg_typing.specs.AttributeSites.{Position};
 ghost use Rattle.wg_typing.specs.AttributeTwice.{clashes, rival_names};
-ghost use Rattle.wg_typing.specs.Named.{small};
 ghost use Rattle.wg_typing.specs.declared.attribute.AttributeName.{AttributeName};
 ghost use Rattle.std.specs.Prelude.{Option};
 ghost use Rattle.std.specs.List.{list_any};
 ghost use Rattle.wg_attribute_rules.specs.Before.{Keeps, rival_stood};
 
 use std::alloc::{AllocError, Global};
+use wg_attribute_arguments::small_letters;
 use wg_text::NameMap;
 use wg_typed::TypedAttribute;
 use wg_typing::{AttributeName, what_stood_before_says};
-use wg_words::{Name, TryCopy};
 
 /// Which grids and bounds stood before.
 #[derive(Clone, Copy)]
@@ -57,16 +56,6 @@ impl Stood {
                 | matches!(name, Some(AttributeName::MaxRecordsSharedWith)),
         }
     }
-}
-
-/// A name in small letters.
-#[tactic(auto, using(crate::proofs::Cases::smalls_are))]
-fn small_letters(alloc: Global, name: &Name) -> Result<Vec<u8>, AllocError>
-    ensures { IfOk result (λ v. v.items ≡ map small name.now) }
-{
-    let mut letters = name.copy(alloc)?.into_vec();
-    letters.as_mut_slice().make_ascii_lowercase();
-    Ok(letters)
 }
 
 impl Before {

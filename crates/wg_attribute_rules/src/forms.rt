@@ -3,18 +3,13 @@ ghost use Rattle.std.specs.Prelude.{◌≡◌, ◌≤◌, ◌*◌, nat_le};
 ghost use Rattle.wg_typing.specs.AttributeArguments as g;
 ghost use Rattle.wg_typing.specs.Maybe.{where_true};
 ghost use Rattle.wg_typing.specs.AttributeRange as r;
-ghost use Rattle.wg_typing.specs.AttributeSites as s;
-ghost use Rattle.wg_typing.specs.Named.{at_name};
 ghost use Rattle.std.specs.Option.{option_copied};
 ghost use Rattle.wg_attribute_rules.specs.Positions.{own_of, position_of};
 
-use crate::arguments::{
-    count_in, groups_in, is_id_name, is_node_text, is_number, is_number_between,
-};
-use crate::names::first_named;
+use crate::arguments::{is_id_name, is_node_text, is_number, is_number_between};
 use crate::positions::{Own, Position};
-use wg_tree::ObjectWord;
-use wg_typed::{ArgumentValue, TypedArgument, TypedParameter, TypedParameterType};
+use wg_attribute_arguments::{count_in, first_named, groups_in, kind_of, mode_named};
+use wg_typed::{ArgumentValue, TypedArgument, TypedParameter};
 use wg_typing::{AttributeName, Mode, ParameterKind};
 
 /// The product of three numbers of which each is at least 1, where it is at most 1,024.
@@ -100,42 +95,6 @@ pub fn is_one_node_text(arguments: &[TypedArgument]) -> bool
     }
 }
 
-/// The mode of a name.
-fn mode_of_name(name: &[u8]) -> Option<Mode>
-    ensures { result ≡ at_name g.mode_names name.now }
-{
-    if b"broadcasting".as_slice() == name {
-        return Some(Mode::Broadcasting);
-    }
-    if b"coalescing".as_slice() == name {
-        return Some(Mode::Coalescing);
-    }
-    if b"thread".as_slice() == name {
-        return Some(Mode::Thread);
-    }
-    None
-}
-
-fn named_by(value: &ArgumentValue) -> Option<Mode>
-    ensures { result ≡ g.named_by value.now }
-{
-    match value {
-        ArgumentValue::Text { bytes } => mode_of_name(bytes.as_slice()),
-        ArgumentValue::Number { .. } | ArgumentValue::Parameter { .. } | ArgumentValue::Other =>
-            None,
-    }
-}
-
-/// The launch mode that one string names.
-pub fn mode_named(arguments: &[TypedArgument]) -> Option<Mode>
-    ensures { result ≡ g.mode_named arguments.now }
-{
-    match arguments {
-        [a] => named_by(&a.value),
-        _ => None,
-    }
-}
-
 /// A node's name, and an index up to the greatest.
 fn is_id(greatest: u64, arguments: &[TypedArgument]) -> bool
     ensures { result ≡ r.is_id greatest arguments.now }
@@ -155,39 +114,6 @@ fn is_hint(arguments: &[TypedArgument]) -> bool
         [] => true,
         [a] => is_number(&a.value),
         _ => false,
-    }
-}
-
-fn object_kind(word: ObjectWord) -> ParameterKind
-    ensures { result ≡ s.object_kind word }
-{
-    match word {
-        ObjectWord::DispatchNodeInputRecord
-        | ObjectWord::RwDispatchNodeInputRecord
-        | ObjectWord::GroupNodeInputRecords
-        | ObjectWord::RwGroupNodeInputRecords
-        | ObjectWord::ThreadNodeInputRecord
-        | ObjectWord::RwThreadNodeInputRecord
-        | ObjectWord::EmptyNodeInput => ParameterKind::Input { word },
-        ObjectWord::NodeOutput | ObjectWord::EmptyNodeOutput => {
-            ParameterKind::Output { array: false }
-        }
-        ObjectWord::NodeOutputArray | ObjectWord::EmptyNodeOutputArray => {
-            ParameterKind::Output { array: true }
-        }
-        ObjectWord::ThreadNodeOutputRecords | ObjectWord::GroupNodeOutputRecords => {
-            ParameterKind::Handle
-        }
-    }
-}
-
-/// What a parameter of a node is.
-pub fn kind_of(of: TypedParameterType) -> ParameterKind
-    ensures { result ≡ s.kind_of of }
-{
-    match of {
-        TypedParameterType::Value { .. } => ParameterKind::Value,
-        TypedParameterType::Object { word, .. } => object_kind(word),
     }
 }
 

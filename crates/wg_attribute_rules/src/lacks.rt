@@ -9,10 +9,10 @@ ghost use Rattle.wg_typing.specs.TypingSystem as t;
 ghost use Rattle.wg_typing.specs.Named.{at_name};
 ghost use Rattle.wg_attribute_rules.specs.Positions.{position_of};
 
-use crate::forms::{is_one_node_text, mode_named};
-use crate::names::{first_named, is_same_name};
+use crate::forms::is_one_node_text;
 use crate::positions::Position;
-use wg_tree::{Directed, Direction, Named, ObjectWord, Scalar};
+use wg_attribute_arguments::{has, is_grid_field, is_same_name, is_uint_up_to_3, mode_of};
+use wg_tree::{Directed, Direction, ObjectWord, Scalar};
 use wg_typed::{
     SystemValue, TypeTree, TypedAttribute, TypedField, TypedParameter, TypedParameterType,
 };
@@ -30,20 +30,6 @@ pub fn is_entry(list: &[TypedAttribute]) -> bool
         }
     }
     false
-}
-
-/// The launch mode of a node, by its first `NodeLaunch`.
-pub fn mode_of(list: &[TypedAttribute]) -> Option<Mode>
-    ensures { result ≡ g.mode_of list.now }
-{
-    let a = first_named(b"NodeLaunch", list)?;
-    mode_named(a.arguments.as_slice())
-}
-
-fn has(name: &[u8], list: &[TypedAttribute]) -> bool
-    ensures { result ≡ is_some (g.first_named name.now list.now) }
-{
-    first_named(name, list).is_some()
 }
 
 fn is_broadcasting(mode: Mode) -> bool
@@ -64,37 +50,10 @@ fn is_thread(mode: Mode) -> bool
     matches!(mode, Mode::Thread)
 }
 
-/// `uint`, `uint2` or `uint3`.
-fn is_uint_up_to_3(of: TypeTree) -> bool
-    ensures { result ≡ t.is_uint_up_to_3 of }
-{
-    match of {
-        TypeTree::Scalar { of } => matches!(of, Scalar::Uint),
-        TypeTree::Vector { of, size } => matches!(of, Scalar::Uint) & (size <= 3),
-        TypeTree::Struct { .. } | TypeTree::Array { .. } => false,
-    }
-}
-
-fn is_grid_name(semantic: &Option<Named>) -> bool
-    ensures { result ≡ y.is_named "SV_DispatchGrid" semantic.now }
-{
-    match semantic {
-        Some(name) => b"SV_DispatchGrid".as_slice() == name.name.as_slice(),
-        None => false,
-    }
-}
-
-/// A field that may give a record's grid.
-fn is_grid_field(field: &TypedField) -> bool
-    ensures { result ≡ y.is_grid_field field.now }
-{
-    is_grid_name(&field.semantic) & is_uint_up_to_3(field.of)
-}
-
 fn has_grid_field(fields: &[TypedField]) -> bool
     ensures { result ≡ list_any y.is_grid_field fields.now }
 {
-    fields.iter().any(is_grid_field)
+    fields.iter().any(|field| is_grid_field(field))
 }
 
 /// What a node lacks: its mode, its threads, a grid, or the field of a greatest grid.

@@ -1,19 +1,10 @@
 ghost use Rattle.std.specs.Prelude.{◌≡◌, ◌||◌, take, drop};
-ghost use Rattle.std.specs.Option.{option_copied};
-ghost use Rattle.wg_typing.specs.AttributeArguments as g;
 ghost use Rattle.wg_typing.specs.AttributeNames.{attribute_names, named_in, name_of as defined_name};
 ghost use Rattle.wg_typing.specs.Named as n;
 
+use wg_attribute_arguments::is_same_name;
 use wg_typed::TypedAttribute;
 use wg_typing::AttributeName;
-
-/// Names of attributes are compared without regard to the case of letters.
-#[tactic(auto, using(crate::proofs::Cases::same_names))]
-pub fn is_same_name(a: &[u8], b: &[u8]) -> bool
-    ensures { result ≡ n.is_same_name a.now b.now }
-{
-    a.eq_ignore_ascii_case(b)
-}
 
 /// Those that a node alone has, but for those that say where it stands.
 fn launch_attribute(name: &[u8]) -> Option<AttributeName>
@@ -85,16 +76,4 @@ pub fn name_of(a: &TypedAttribute) -> Option<AttributeName>
 {
     let name = a.name.name.as_slice();
     launch_attribute(name).or(other_attribute(name))
-}
-
-/// The first attribute of a name.
-pub fn first_named<'a>(name: &[u8], list: &'a [TypedAttribute]) -> Option<&'a TypedAttribute>
-    ensures { option_copied result ≡ g.first_named name.now list.now }
-{
-    for a in list {
-        if is_same_name(name, a.name.name.as_slice()) {
-            return Some(a);
-        }
-    }
-    None
 }

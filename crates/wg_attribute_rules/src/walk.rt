@@ -8,11 +8,11 @@ ghost use Rattle.wg_attribute_rules.specs.Noted.{noted};
 ghost use Rattle.wg_attribute_rules.specs.Positions.{position_of, own_of};
 
 use crate::before::Before;
-use crate::forms::kind_of;
-use crate::lacks::{is_entry, mode_of};
+use crate::lacks::is_entry;
 use crate::positions::{Own, Position, standing};
 use crate::sites::{at_attribute, at_input, at_node, at_output, at_value};
 use std::alloc::{AllocError, Global};
+use wg_attribute_arguments::{kind_of, mode_of};
 use wg_typed::{
     Typed, TypedAttribute, TypedField, TypedFunction, TypedParameter, TypedParameterType,
     TypedStmt, TypedStruct,

@@ -12,6 +12,3 @@ pub use fault::JournalFault;
 pub use reading::read;
 pub use wg_machine::{BufferLine, BufferLines, Done, Entry, Journal, Stop, Tail};
 pub use write::{done_text, line, print, stop_text};
-
-#[cfg(test)]
-mod tests;

@@ -6,7 +6,5 @@ mod lanes;
 mod phases;
 mod sent;
 mod start;
-#[cfg(test)]
-mod tests;
 
 pub use group::launch;

@@ -10,8 +10,6 @@ mod marks;
 mod numbers;
 mod position;
 mod slices;
-#[cfg(test)]
-mod tests;
 mod text;
 
 pub use fault::LexFault;

@@ -1,5 +1,5 @@
 -- What statements and loops do after a part of them has ended.
-use Rattle.std.specs.Prelude.{ℕ, Bool, true, false, Option, Some, None, Result, Ok, Err}
+use Rattle.std.specs.Prelude.{ℕ, Bool, true, false, List, Option, Some, None, Result, Ok, Err}
 use Rattle.wg_state.specs.Turns.{Action, ◌>>=◌, ◌>>◌, pure, turn}
 use Rattle.wg_semantics.specs.declared.state.State.{State}
 use Rattle.wg_semantics.specs.declared.state.Flow.{Flow}
@@ -8,8 +8,14 @@ use Rattle.wg_semantics.specs.declared.state.Spot.{Spot}
 use Rattle.wg_semantics.specs.Places.{Setting}
 use Rattle.wg_semantics.specs.Calls.{Seen}
 use Rattle.wg_semantics.specs.ExprMeaning.{word_of}
-use Rattle.wg_semantics.specs.StepMeaning.{raw_word}
+use Rattle.wg_semantics.specs.StepMeaning.{raw_word, steps_do}
+use Rattle.wg_semantics.specs.StmtMeaning.{does, loop, test_of}
+use Rattle.wg_typed.specs.declared.typed_expr.TypedExpr.{TypedExpr}
+use Rattle.wg_typed.specs.declared.typed_stmt.TypedStep.{TypedStep}
+use Rattle.wg_typed.specs.declared.typed_stmt.TypedStmt.{TypedStmt}
 use Rattle.wg_machine.specs.declared.bodies.Halt.{Halt}
+use Rattle.wg_values.specs.declared.place.Setting.{Setting as Given}
+use Rattle.wg_evaluation.specs.Says.{within}
 
 -- whether the statements after one run
 abbrev pub goes_on : Flow → Bool
@@ -21,6 +27,10 @@ goes_on (flow.Returned words) = false
 -- what a `for` begins with, then its loop
 abbrev pub begun : Action State (Unit {0}) → Action State Flow → Action State Flow
 begun start loop = start >> loop
+
+-- the loop of a `for` by its parts, where calls reach so many functions
+abbrev pub for_looped : ℕ → Given → Option TypedExpr → TypedStmt → List TypedStep → Action State Flow
+for_looped reach s test body steps = loop (within reach s test_of test) (within reach s does body) (within reach s steps_do steps)
 
 -- a loop's body takes a turn
 abbrev pub entered : Action State Flow → Action State Flow

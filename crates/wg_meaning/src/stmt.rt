@@ -1,9 +1,9 @@
 ghost use Rattle.std.specs.Prelude.{◌≡◌, ◌≤◌, ◌<◌, OnOk, option_map};
 ghost use Rattle.wg_state.specs.Turns.{Done, pure};
 ghost use Rattle.wg_semantics.specs.ExprMeaning.{seen, word_of};
-ghost use Rattle.wg_semantics.specs.StepMeaning.{steps_do, started};
+ghost use Rattle.wg_semantics.specs.StepMeaning.{started};
 ghost use Rattle.wg_semantics.specs.StmtMeaning.{loop as looped, on, test_of, of_group, is_group_handle, asks, completes, maybe_else, returned, does, body_does};
-ghost use Rattle.wg_meaning.specs.Flows.{begun, entered, goes_on as flow_goes_on, loop_left, next_result};
+ghost use Rattle.wg_meaning.specs.Flows.{begun, entered, for_looped, goes_on as flow_goes_on, loop_left, next_result};
 ghost use Rattle.wg_values.specs.Pieces.{setting_of};
 ghost use Rattle.wg_evaluation.specs.Says.{Runs, within};
 
@@ -225,7 +225,7 @@ fn for_loop<C: Calls>(
     list: &Items<TypedStep>,
     run: &mut Run,
 ) -> Result<Flow, Halt>
-    ensures says { Runs (looped (within (C.reach calls.now) setting.now test_of e.now) (within (C.reach calls.now) setting.now does body.now) (within (C.reach calls.now) setting.now steps_do list.now)) run.old result run.new }
+    ensures says { Runs (for_looped (C.reach calls.now) setting.now e.now body.now list.now) run.old result run.new }
     ensures turns { run.new.turns ≤ run.old.turns }
 {
     'turns: loop {
@@ -269,7 +269,7 @@ fn for_statement<C: Calls>(
     body: &Boxed<TypedStmt>,
     run: &mut Run,
 ) -> Result<Flow, Halt>
-    ensures says { Runs (begun (within (C.reach calls.now) setting.now started start.now) (looped (within (C.reach calls.now) setting.now test_of test.now) (within (C.reach calls.now) setting.now does body.now) (within (C.reach calls.now) setting.now steps_do steps.now))) run.old result run.new }
+    ensures says { Runs (begun (within (C.reach calls.now) setting.now started start.now) (for_looped (C.reach calls.now) setting.now test.now body.now steps.now)) run.old result run.new }
     ensures turns { run.new.turns ≤ run.old.turns }
 {
     begin(setting, calls, start, run)?;

@@ -4,7 +4,5 @@
 mod item;
 mod parameter;
 mod parsing;
-#[cfg(test)]
-mod tests;
 
 pub use parsing::{MOST_NESTING, ParseFault, ends_of_texts_fit, parse};

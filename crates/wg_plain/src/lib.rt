@@ -9,8 +9,6 @@ mod grid;
 mod laws;
 mod replays;
 mod steps;
-#[cfg(test)]
-mod tests;
 mod traced;
 
 pub use laws::one_run;

@@ -12,6 +12,3 @@ mod script;
 
 pub use reading::read_script;
 pub use script::{Script, ScriptFault};
-
-#[cfg(test)]
-mod tests;

@@ -40,32 +40,6 @@ fn add_line(
     }
 }
 
-/// Reads a script of a shape whose units have numbers of 32 bits.
-pub(crate) fn read_lines(alloc: Global, text: &[u8], shape: &Shape) -> Result<Script, ScriptFault>
-    requires { length shape.now.units < 2 ^ 32 }
-    ensures good { IfOk result (λ _. AreGood shape.now (lines_of text.now)) }
-    ensures script { IfOk result (IsScript shape.now (all_said (lines_of text.now))) }
-    ensures fit { IfOk result (IsFit shape.now) }
-    ensures only { AreGood shape.now (lines_of text.now) → (fault : ScriptFaultOf) → result ≡ Err fault → fault ≡ Memory }
-    ensures fault { (fault : ScriptFaultOf) → result ≡ Err fault → fault ≢ Memory → IsFirstFault shape.now text.now fault }
-{
-    let names = ScriptNames::new(alloc, shape)?;
-    let mut draft = Draft::new(alloc, shape.buffers.len())?;
-    let mut lines = Lines::new(text);
-    let Some(first) = lines.next() else {
-        return Err(ScriptFault::Form { line: 1 });
-    };
-    let Some(version) = title(first) else {
-        return Err(ScriptFault::Form { line: 1 });
-    };
-    let mut number = 1u64;
-    while let Some(line) = lines.next() {
-        number += 1;
-        add_line(alloc, shape, &names, &mut draft, version, line, number)?;
-    }
-    Ok(draft.finish(alloc)?)
-}
-
 /// The script that a text gives for a shape, or its first fault.
 pub fn read_script(alloc: Global, text: &[u8], shape: &Shape) -> Result<Script, ScriptFault>
     requires { IsGoodShape shape.now }
@@ -86,5 +60,19 @@ pub fn read_script(alloc: Global, text: &[u8], shape: &Shape) -> Result<Script, 
     ensures fault { (fault : ScriptFaultOf) → result ≡ Err fault → fault ≢ Memory → IsFirstFault shape.now text.now fault }
 {
     few_units();
-    read_lines(alloc, text, shape)
+    let names = ScriptNames::new(alloc, shape)?;
+    let mut draft = Draft::new(alloc, shape.buffers.len())?;
+    let mut lines = Lines::new(text);
+    let Some(first) = lines.next() else {
+        return Err(ScriptFault::Form { line: 1 });
+    };
+    let Some(version) = title(first) else {
+        return Err(ScriptFault::Form { line: 1 });
+    };
+    let mut number = 1u64;
+    while let Some(line) = lines.next() {
+        number += 1;
+        add_line(alloc, shape, &names, &mut draft, version, line, number)?;
+    }
+    Ok(draft.finish(alloc)?)
 }

@@ -9,8 +9,6 @@ mod operators;
 mod place;
 mod requests;
 mod structs;
-#[cfg(test)]
-mod tests;
 mod wide;
 mod words;
 mod zeros;

@@ -1,4 +1,4 @@
-use crate::answer::{Answer, answer_of};
+use crate::answer::{Answer, Asked, answer_of};
 use crate::settings::{Settings, settings_of};
 use std::alloc::{AllocError, Global};
 
@@ -27,6 +27,23 @@ fn push_line(text: &mut String, line: &str) -> Result<(), AllocError> {
     Ok(())
 }
 
+/// What the last line of a row asks for.
+fn asked_by(line: &str) -> Option<Asked> {
+    if line == "end" {
+        return Some(Asked::Worth);
+    }
+    if line == "print" {
+        return Some(Asked::Text);
+    }
+    if line == "replay" {
+        return Some(Asked::Rest);
+    }
+    if line == "read" {
+        return Some(Asked::Script);
+    }
+    None
+}
+
 impl Row {
     pub fn new(alloc: Global) -> Row {
         Row {
@@ -42,10 +59,11 @@ impl Row {
         self.title.as_str()
     }
 
-    pub fn answer(&self, alloc: Global) -> Answer {
+    pub fn answer(&self, alloc: Global, asked: Asked) -> Answer {
         answer_of(
             alloc,
             self.settings,
+            asked,
             self.script.as_bytes(),
             self.journal.as_bytes(),
         )
@@ -68,16 +86,17 @@ impl Row {
         Ok(())
     }
 
-    /// Takes a line, and tells whether it ends the row.
-    pub fn take(&mut self, line: &str) -> Result<bool, AllocError> {
-        if line == "end" {
-            return Ok(true);
+    /// Takes a line, and tells what is asked where it ends the row.
+    pub fn take(&mut self, line: &str) -> Result<Option<Asked>, AllocError> {
+        let asked = asked_by(line);
+        if asked.is_some() {
+            return Ok(asked);
         }
         if line == "journal" {
             self.part = Part::Journal;
         } else if !line.is_empty() {
             self.add(line)?;
         }
-        Ok(false)
+        Ok(None)
     }
 }

@@ -1,4 +1,4 @@
-use Rattle.std.proofs.Common.{◌≡◌, ◌∙◌, ◌++◌, ℕ, List, ap, sym}
+use Rattle.std.proofs.Common.{◌∙◌, ◌++◌, ℕ, List, ap, sym}
 use Rattle.std.specs.Option.{option_map}
 use Rattle.wg_script.specs.Lines.{all_words}
 use Rattle.wg_script.specs.Numbers.{words_by}

@@ -1,0 +1,17 @@
+pub mod Ops
+pub mod Straight
+pub mod Registers
+pub mod Values
+pub mod Fetches
+pub mod Parts
+pub mod Elements
+pub mod Narrow
+pub mod Forms
+pub mod Rights
+pub mod Operated
+pub mod Wholes
+pub mod Converted
+pub mod Rests
+pub mod Numbers
+pub mod Swizzles
+pub mod Expressions

@@ -1,0 +1,4 @@
+pub mod Exprs
+pub mod Fits
+pub mod Holding
+pub mod Where

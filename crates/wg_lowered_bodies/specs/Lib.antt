@@ -1,0 +1,5 @@
+pub mod Statements
+pub mod StatementsFit
+pub mod Steps
+pub mod StepsFit
+pub mod Returning

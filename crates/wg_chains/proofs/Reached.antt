@@ -5,7 +5,7 @@ use Rattle.std.proofs.lemmas.Option.{same_Some, slice_get-get_or, slice_get_with
 use Rattle.wg_node_attributes.specs.declared.attributes.NodeAttrs.{NodeAttrs}
 use Rattle.wg_shapes.specs.Chain.{Chain, alone, onward, IsLongest}
 use Rattle.wg_shapes.specs.ChainTooLong.{EndsLongChain}
-use Rattle.wg_shapes.specs.Level.{Sends, top_level}
+use Rattle.wg_shapes.specs.Level.{Sends, depth_if, top_level}
 use Rattle.wg_shapes.specs.Naming.{targets, targets_of}
 use Rattle.wg_chains.specs.Arrived.{lower_levels, last_of, lower_in, last_in, deeper_of, IsArrived, IsReached, AreReached}
 use Rattle.wg_chains.specs.Rows.{leads, AreLinks}
@@ -170,8 +170,43 @@ none_long nodes n d r le e =
     let long = e.long in
     omega (arith, most, known, long, le)
 
-pub longest_there : (nodes : List NodeAttrs) (n d : ℕ) → IsReached nodes 32 n d → d ≤ 32 → IsLongest (Sends nodes) d (n, top_level nodes n)
-longest_there nodes n d r le = record { chain = r.chain; longest = λ m c. (let known = r.longest m c in omega (arith, known, le)) }
+-- ---- lower levels
+
+-- a node with more than one level targets itself
+more_levels : (nodes : List NodeAttrs) (n : ℕ) → 0 < top_level nodes n → IsTrue (targets nodes n n)
+more_levels nodes n lt = go (targets nodes n n) refl lt
+  where
+    go : (b : Bool) → targets nodes n n ≡ b → 0 < cond b (depth_if (slice_get nodes n)) 0 → targets nodes n n ≡ true
+    go true e lt = e
+    go false e lt = absurd (omega (arith, lt))
+
+chain_at : (nodes : List NodeAttrs) (n d level : ℕ) → Chain (Sends nodes) d (n, top_level nodes n) → level ≤ top_level nodes n → Chain (Sends nodes) (d + (top_level nodes n - level)) (n, level)
+chain_at nodes n d level c le = ⊎_elim lower same (cases_lt level (top_level nodes n))
+  where
+    lower : level < top_level nodes n → Chain (Sends nodes) (d + (top_level nodes n - level)) (n, level)
+    lower lt =
+        let e : top_level nodes n - (top_level nodes n - level) ≡ level = omega (arith, le) in
+        subst (λ l. Chain (Sends nodes) (d + (top_level nodes n - level)) (n, l)) e (descend nodes n d (top_level nodes n - level) (more_levels nodes n (omega (arith, lt))) (omega arith) c)
+
+    same : top_level nodes n ≤ level → Chain (Sends nodes) (d + (top_level nodes n - level)) (n, level)
+    same ge =
+        let e : top_level nodes n ≡ level = omega (arith, le, ge) in
+        let f : d ≡ d + (top_level nodes n - level) = omega (arith, ge) in
+        subst₂ (λ k l. Chain (Sends nodes) k (n, l)) f e c
+
+-- the longest chain to a unit of a lower level has so many units more
+pub longest_at : (nodes : List NodeAttrs) (n d level : ℕ) → IsReached nodes 32 n d → (EndsLongChain nodes n → ⊥) → level ≤ top_level nodes n → IsLongest (Sends nodes) (d + (top_level nodes n - level)) (n, level)
+longest_at nodes n d level r none le = record { chain = chain_at nodes n d level r.chain le; longest = longest }
+  where
+    longest : (m : ℕ) → Chain (Sends nodes) m (n, level) → m ≤ d + (top_level nodes n - level)
+    longest m x =
+        let h = climb nodes m (n, level) x in
+        let most = h.most in
+        let known = r.longest h.units h.chain in
+        ⊎_elim
+        (λ (lt : 32 < d + (top_level nodes n - level)). absurd (none (record { level = level; units = d + (top_level nodes n - level); long = lt; chain = chain_at nodes n d level r.chain le })))
+        (λ (short : d + (top_level nodes n - level) ≤ 32). omega (arith, most, known, short))
+        (cases_lt 32 (d + (top_level nodes n - level)))
 
 -- ---- one depth, found node by node
 
@@ -182,7 +217,13 @@ pub record Arriving (nodes : List NodeAttrs) (depths : List ℕ) (n i best : ℕ
   pub from : (best ≡ 1) ⊎ ((k : ℕ) × (k ≢ n) × IsTrue (targets nodes k n) × (best ≤ suc (last_of nodes depths k)))
 
 same_last : (nodes : List NodeAttrs) (rows : List (List Bool)) (depths : List ℕ) (n : ℕ) → AreLinks nodes rows → last_in nodes rows depths n ≡ last_of nodes depths n
-same_last nodes rows depths n links = ap (λ b. unwrap_or (slice_get depths n) 0 + cond b (top_level nodes n) 0) (links.same n n)
+same_last nodes rows depths n links =
+    ap (λ b. unwrap_or (slice_get depths n) 0 + cond b (depth_if (slice_get nodes n)) 0) (links.same n n)
+    ∙ ap (λ d. unwrap_or (slice_get depths n) 0 + d) (twice (targets nodes n n) (depth_if (slice_get nodes n)))
+  where
+    twice : (b : Bool) (d : ℕ) → cond b d 0 ≡ cond b (cond b d 0) 0
+    twice true d = refl
+    twice false d = refl
 
 pub none_arriving : (nodes : List NodeAttrs) (depths : List ℕ) (n : ℕ) → Arriving nodes depths n 0 1
 none_arriving nodes depths n = record { least = omega arith; most = omega arith; above = λ k lt. absurd (omega (arith, lt)); from = inl refl }

@@ -3,11 +3,11 @@ use Rattle.std.specs.Prelude.{◌≡◌, ◌≢◌, ◌⊎◌, ⊤, ℕ, suc, �
 use Rattle.wg_node_attributes.specs.declared.attributes.NodeAttrs.{NodeAttrs}
 use Rattle.wg_shapes.specs.Chain.{Chain}
 use Rattle.wg_shapes.specs.FirstNode.{IsFirstNode}
-use Rattle.wg_shapes.specs.Level.{Sends, top_level}
+use Rattle.wg_shapes.specs.Level.{Sends, depth_if, top_level}
 use Rattle.wg_shapes.specs.Naming.{targets}
 use Rattle.wg_chains.specs.Rows.{leads}
 
--- how many units a node that targets itself has below the declared depth
+-- how many units a node that targets itself has below its top level
 abbrev pub lower_levels : List NodeAttrs → ℕ → ℕ
 lower_levels nodes n = if targets nodes n n then top_level nodes n else 0
 
@@ -17,7 +17,7 @@ last_of nodes depths n = unwrap_or (slice_get depths n) 0 + lower_levels nodes n
 
 -- the same by rows of flags
 abbrev pub lower_in : List NodeAttrs → List (List Bool) → ℕ → ℕ
-lower_in nodes rows n = if leads rows n n then top_level nodes n else 0
+lower_in nodes rows n = if leads rows n n then depth_if (slice_get nodes n) else 0
 
 abbrev pub last_in : List NodeAttrs → List (List Bool) → List ℕ → ℕ → ℕ
 last_in nodes rows depths n = unwrap_or (slice_get depths n) 0 + lower_in nodes rows n

@@ -1,9 +1,9 @@
-ghost use Rattle.std.specs.Prelude.{◌≡◌, ◌≤◌, ◌<◌, ◌^◌, ℕ, suc, length, IfOk};
+ghost use Rattle.std.specs.Prelude.{◌≡◌, ◌≤◌, ◌<◌, ◌^◌, ℕ, suc, length, slice_get, IfOk};
 ghost use Rattle.wg_words.specs.declared.limits.TheConstants.{MOST_NODES, MOST_UNIT_CHAIN};
 ghost use Rattle.wg_chains.specs.Arrived.{IsArrived, AreReached, IsFirstOrNone, deeper_of, last_in, lower_in};
 ghost use Rattle.wg_chains.specs.Rows.{AreLinks};
 ghost use Rattle.wg_shapes.specs.ChainTooLong.{EndsLongChain};
-ghost use Rattle.wg_shapes.specs.Level.{top_level as top_of};
+ghost use Rattle.wg_shapes.specs.Level.{depth_if};
 
 use crate::rows::{Rows, leads};
 use std::alloc::{AllocError, Global};
@@ -11,9 +11,9 @@ use wg_node_attributes::NodeAttrs;
 use wg_words::Words;
 use wg_words::limits::MOST_UNIT_CHAIN;
 
-/// The declared depth of a node.
-fn top_level(nodes: &[NodeAttrs], n: usize) -> u32
-    ensures { result ≡ top_of nodes.now n }
+/// The depth that a node declares.
+fn declared(nodes: &[NodeAttrs], n: usize) -> u32
+    ensures { result ≡ depth_if (slice_get nodes.now n) }
 {
     match nodes.get(n) {
         Some(a) => a.recursion.unwrap_or(0),
@@ -21,12 +21,12 @@ fn top_level(nodes: &[NodeAttrs], n: usize) -> u32
     }
 }
 
-/// How many units a node that targets itself has below the declared depth.
+/// How many units a node that targets itself has below its top level.
 fn lower_levels(nodes: &[NodeAttrs], rows: &Rows, n: usize) -> u32
     ensures { result ≡ lower_in nodes.now rows.now n }
 {
     if leads(rows, n, n) {
-        top_level(nodes, n)
+        declared(nodes, n)
     } else {
         0
     }

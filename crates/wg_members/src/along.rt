@@ -8,7 +8,8 @@ use wg_typed::{Access, TypeTree, TypedExpr, TypedKind};
 use wg_typing::{Along, Part, Reached, Standing, Value};
 use wg_words::Place;
 
-fn begin(alloc: Global, value: Value) -> Along
+/// What a value is before the forms after it.
+pub fn begin(alloc: Global, value: Value) -> Along
     ensures { result ≡ t.begin value }
 {
     match value {

@@ -14,5 +14,5 @@ macro_rules! given {
 mod along;
 mod members;
 
-pub use along::{begun, finish};
+pub use along::{begin, begun, finish};
 pub use members::{element, member};

@@ -1,8 +1,9 @@
 -- The depth of a unit, which is that of the longest chain that ends there, is one more than the greatest depth of those that send to it.
-use Rattle.std.proofs.Common.{◌≡◌, ◌≢◌, ℕ, zero, suc, ◌+◌, ◌-◌, ◌≤◌, true, false, max, List, [], ◌∷◌, map, refl, sym, ap, subst, ◌∙◌, ◌⊎◌, inl, inr, ⊎_elim, arith, IsTrue, Option, Some, None, slice_get, filter, option_map, eqb-true, eq-eqb, ne_eqb, ◌==◌, true≢false}
+use Rattle.std.proofs.Common.{◌≡◌, ◌≢◌, ℕ, zero, suc, ◌+◌, ◌-◌, ◌<◌, ◌≤◌, true, false, max, List, [], ◌∷◌, length, map, refl, sym, ap, subst, ◌∙◌, ◌⊎◌, inl, inr, ⊎_elim, arith, IsTrue, Option, Some, None, slice_get, filter, option_map, eqb-true, eq-eqb, ne_eqb, ◌==◌, true≢false}
 use Rattle.std.specs.List.{list_any}
 use Rattle.std.proofs.lemmas.Bool.{cases_Bool, cond-true, cond-false}
-use Rattle.std.proofs.lemmas.Option.{same_Some, slice_get-map}
+use Rattle.std.proofs.lemmas.Option.{same_Some, slice_get-map, slice_get-get_or, slice_get_within}
+use Rattle.std.proofs.lemmas.List.FromFn.{get_or-map-range_with_len, length-map-range_with_len}
 use Rattle.wg_machine.specs.Need.{greatest, is_target}
 use Rattle.wg_machine.specs.Unrolling.{unrolled, node_and_level, sends_to, depth_of}
 use Rattle.wg_machine.specs.declared.shape.Output.{Output}
@@ -12,7 +13,7 @@ use Rattle.wg_typed.specs.declared.typed.Typed.{Typed}
 use Rattle.wg_node_attributes.specs.declared.attributes.NodeAttrs.{NodeAttrs}
 use Rattle.wg_node_attributes.specs.declared.attributes.OutputAttr.{OutputAttr}
 use Rattle.wg_shapes.specs.Chain.{Chain, alone, onward, IsLongest}
-use Rattle.wg_shapes.specs.Level.{Sends, depth_declared, top_level, depth_if}
+use Rattle.wg_shapes.specs.Level.{Sends, top_level, top_levels}
 use Rattle.wg_shapes.specs.Naming.{elements_of, has_target, targets, targets_of}
 use Rattle.wg_shapes.specs.ShapeOf.{IsShapeOf, IsOutputOf, IsUnitAt, arrival, one_lower}
 use Rattle.wg_shapes.proofs.Booleans.{found, any_beside}
@@ -105,23 +106,28 @@ arrives_back nodes n level m k (inr other) = cond-false (m == n) (one_lower n le
 
 -- ---- units that send to units
 
-pub at_unit : (typed : Typed) (nodes : List NodeAttrs) (shape : Shape) → IsShapeOf typed nodes shape → (k : ℕ) (u : Unit) → slice_get shape.units k ≡ Some u → slice_get (unrolled 0 (map depth_declared nodes)) k ≡ Some (node_and_level u)
+pub at_unit : (typed : Typed) (nodes : List NodeAttrs) (shape : Shape) → IsShapeOf typed nodes shape → (k : ℕ) (u : Unit) → slice_get shape.units k ≡ Some u → slice_get (unrolled 0 (top_levels nodes)) k ≡ Some (node_and_level u)
 at_unit typed nodes shape is k u e = ap (λ l. slice_get l k) (sym is.unrolling) ∙ slice_get-map node_and_level shape.units k ∙ ap (option_map node_and_level) e
 
-pub within_top : (nodes : List NodeAttrs) (t : ℕ) (p : ℕ × ℕ) → slice_get (unrolled 0 (map depth_declared nodes)) t ≡ Some p → p.1 ≤ top_level nodes p.0
+-- the top level of a node that there is
+pub top_at : (nodes : List NodeAttrs) (n : ℕ) → n < length nodes → slice_get (top_levels nodes) n ≡ Some (top_level nodes n)
+top_at nodes n lt =
+    slice_get-get_or (top_levels nodes) n 0 (let l = length-map-range_with_len (top_level nodes) 0 (length nodes) in omega (arith, l, lt))
+    ∙ ap (λ d. Some d) (get_or-map-range_with_len (top_level nodes) 0 (length nodes) n n 0 lt (omega arith))
+
+pub top_is : (nodes : List NodeAttrs) (n d : ℕ) → slice_get (top_levels nodes) n ≡ Some d → top_level nodes n ≡ d
+top_is nodes n d e =
+    let w = slice_get_within (top_levels nodes) n d e in
+    let l = length-map-range_with_len (top_level nodes) 0 (length nodes) in
+    same_Some (top_level nodes n) d (sym (top_at nodes n (omega (arith, w, l))) ∙ e)
+
+pub within_top : (nodes : List NodeAttrs) (t : ℕ) (p : ℕ × ℕ) → slice_get (unrolled 0 (top_levels nodes)) t ≡ Some p → p.1 ≤ top_level nodes p.0
 within_top nodes t p e =
-    let s = stands (map depth_declared nodes) 0 t p e in
+    let s = stands (top_levels nodes) 0 t p e in
     let n = s.node in let w = s.within in
     let number : s.number ≡ p.0 = omega (arith, n) in
-    let d : top_level nodes p.0 ≡ s.depth = top nodes p.0 s.depth (sym (slice_get-map depth_declared nodes p.0) ∙ ap (slice_get (map depth_declared nodes)) (sym number) ∙ s.declared) in
+    let d : top_level nodes p.0 ≡ s.depth = top_is nodes p.0 s.depth (ap (slice_get (top_levels nodes)) (sym number) ∙ s.declared) in
     omega (arith, w, d)
-  where
-    top : (nodes : List NodeAttrs) (m d : ℕ) → option_map depth_declared (slice_get nodes m) ≡ Some d → top_level nodes m ≡ d
-    top nodes m d e = go (slice_get nodes m) e
-      where
-        go : (o : Option NodeAttrs) → option_map depth_declared o ≡ Some d → depth_if o ≡ d
-        go None e = absurd cc
-        go (Some a) e = same_Some (depth_declared a) d e
 
 -- some unit of the shape is that of a node at a level
 pub record IsAUnit (shape : Shape) (p : ℕ × ℕ) : Type 0 where
@@ -132,10 +138,9 @@ pub record IsAUnit (shape : Shape) (p : ℕ × ℕ) : Type 0 where
 
 pub a_unit : (typed : Typed) (nodes : List NodeAttrs) (shape : Shape) → IsShapeOf typed nodes shape → (a : NodeAttrs) (p : ℕ × ℕ) → slice_get nodes p.0 ≡ Some a → p.1 ≤ top_level nodes p.0 → IsAUnit shape p
 a_unit typed nodes shape is a p e le =
-    let declared : slice_get (map depth_declared nodes) p.0 ≡ Some (depth_declared a) = slice_get-map depth_declared nodes p.0 ∙ ap (option_map depth_declared) e in
-    let top : top_level nodes p.0 ≡ depth_declared a = ap depth_if e in
-    let t = first_unit (map depth_declared nodes) p.0 + (depth_declared a - p.1) in
-    let there = unit_there (map depth_declared nodes) 0 p.0 (depth_declared a) p.1 declared (omega (arith, top, le)) in
+    let declared = top_at nodes p.0 (slice_get_within nodes p.0 a e) in
+    let t = first_unit (top_levels nodes) p.0 + (top_level nodes p.0 - p.1) in
+    let there = unit_there (top_levels nodes) 0 p.0 (top_level nodes p.0) p.1 declared le in
     let zero_more : 0 + p.0 ≡ p.0 = omega arith in
     go t (slice_get shape.units t) refl (sym (slice_get-map node_and_level shape.units t) ∙ ap (λ l. slice_get l t) is.unrolling ∙ there ∙ ap (λ k. Some (k, p.1)) zero_more)
   where
@@ -184,7 +189,7 @@ module _ (typed : Typed) (nodes : List NodeAttrs) (shape : Shape) (is : IsShapeO
           go : (y : Option ℕ) → IsUnitAt shape.units (Some (node_and_level v)) y → IsTrue (is_target k y)
           go None at = absurd at
           go (Some j) at =
-              let one = one_unit (map depth_declared nodes) 0 j k (node_and_level v) (ap (λ l. slice_get l j) (sym is.unrolling) ∙ at) (at_unit typed nodes shape is k v f) in
+              let one = one_unit (top_levels nodes) 0 j k (node_and_level v) (ap (λ l. slice_get l j) (sym is.unrolling) ∙ at) (at_unit typed nodes shape is k v f) in
               eq-eqb j k one
 
   -- where a chain comes from a pair, the pair is a unit

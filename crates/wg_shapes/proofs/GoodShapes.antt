@@ -1,9 +1,10 @@
 -- The shape of a graph whose nodes fit one another is a good one.
-use Rattle.std.proofs.Common.{◌≡◌, ◌≢◌, ℕ, zero, suc, ◌+◌, ◌<◌, ◌≤◌, Bool, true, false, not, ◌||◌, List, [], ◌∷◌, length, map, refl, sym, ap, ap₂, subst, subst₂, ◌∙◌, ◌⊎◌, inl, inr, ⊎_elim, arith, IsTrue, Option, Some, None, slice_get, filter, option_map, eqb-true, eq-eqb, ◌==◌, unwrap_or}
+use Rattle.std.proofs.Common.{◌≡◌, ◌≢◌, ℕ, zero, suc, ◌+◌, ◌<◌, ◌≤◌, Bool, true, false, cond, not, ◌||◌, List, [], ◌∷◌, length, map, refl, sym, ap, ap₂, subst, subst₂, ◌∙◌, ◌⊎◌, inl, inr, ⊎_elim, arith, IsTrue, Option, Some, None, slice_get, filter, option_map, eqb-true, eq-eqb, ◌==◌, unwrap_or}
 use Rattle.std.specs.List.{AllZip, list_any, range_with_len}
 use Rattle.std.specs.Str.{bytes_eq}
 use Rattle.std.proofs.lemmas.Bool.{cases_Bool, cases_lt, cond-true, cond-false}
 use Rattle.std.proofs.lemmas.List.{length-map}
+use Rattle.std.proofs.lemmas.List.FromFn.{length-map-range_with_len}
 use Rattle.std.proofs.lemmas.Option.{same_Some, slice_get-map, slice_get_within, slice_get-get_or}
 use Rattle.std.proofs.lemmas.Slice.Eq.{bytes_eq-Decides}
 use Rattle.wg_words.specs.Each.{Each}
@@ -22,13 +23,13 @@ use Rattle.wg_node_attributes.specs.declared.attributes.NodeAttrs.{NodeAttrs}
 use Rattle.wg_node_attributes.specs.declared.attributes.OutputAttr.{OutputAttr}
 use Rattle.wg_shapes.specs.Chain.{onward, IsLongest}
 use Rattle.wg_shapes.specs.Buildable.{IsBuildable, IsTaken, Takes}
-use Rattle.wg_shapes.specs.Level.{Sends, depth_declared, top_level, depth_if}
+use Rattle.wg_shapes.specs.Level.{Sends, top_level, top_levels, depth_if}
 use Rattle.wg_shapes.specs.Limits.{AreGoodAttrs, IsGoodNode, IsGoodOutputAttr}
-use Rattle.wg_shapes.specs.Naming.{elements_of, is_named}
+use Rattle.wg_shapes.specs.Naming.{elements_of, is_named, targets}
 use Rattle.wg_shapes.specs.Records.{input_record, output_record, record_words, bool_words, shares_input}
 use Rattle.wg_shapes.specs.ShapeOf.{IsShapeOf, IsUnitOfNode, IsOutputOf, IsUnitAt, arrival, budgets_of, budget_count, most_of, is_targeted, node_name, buffer_name}
 use Rattle.wg_shapes.proofs.Booleans.{and_first, and_both, not_both, zip_length, each_at, each_map, each_of, each_then, any_at, beside}
-use Rattle.wg_shapes.proofs.Depths.{Arrives, arrives, at_unit, depth_is, sends_on}
+use Rattle.wg_shapes.proofs.Depths.{Arrives, arrives, at_unit, depth_is, sends_on, top_at, top_is}
 use Rattle.wg_shapes.proofs.Empty.{few, no_earlier}
 use Rattle.wg_shapes.proofs.Numbered.{none_before}
 
@@ -87,7 +88,7 @@ module _ (typed : Typed) (nodes : List NodeAttrs) (shape : Shape) (good : AreGoo
   node_good : (n : ℕ) (a : NodeAttrs) → slice_get nodes n ≡ Some a → IsGoodNode typed a
   node_good n a e = each_at (IsGoodNode typed) nodes n a good.nodes_good e
 
-  first_of_node : (k : ℕ) (u : Unit) (a : NodeAttrs) → slice_get shape.units k ≡ Some u → slice_get nodes u.node ≡ Some a → u.level ≡ depth_declared a → IsFirst shape k
+  first_of_node : (k : ℕ) (u : Unit) (a : NodeAttrs) → slice_get shape.units k ≡ Some u → slice_get nodes u.node ≡ Some a → u.level ≡ top_level nodes u.node → IsFirst shape k
   first_of_node k u a e there level v lt same = go (slice_get shape.units v) refl same
     where
       node_is : node_at shape k ≡ u.node
@@ -95,8 +96,8 @@ module _ (typed : Typed) (nodes : List NodeAttrs) (shape : Shape) (good : AreGoo
 
       gone : (w : Unit) → slice_get shape.units v ≡ Some w → w.node ≡ u.node → ⊥
       gone w f g =
-          let h = none_before (map depth_declared nodes) 0 k v u.node (depth_declared a) (node_and_level u) (node_and_level w)
-          (slice_get-map depth_declared nodes u.node ∙ ap (option_map depth_declared) there) (at_unit typed nodes shape is k u e) (omega arith) level (at_unit typed nodes shape is v w f) g in
+          let h = none_before (top_levels nodes) 0 k v u.node (top_level nodes u.node) (node_and_level u) (node_and_level w)
+          (top_at nodes u.node (slice_get_within nodes u.node a there)) (at_unit typed nodes shape is k u e) (omega arith) level (at_unit typed nodes shape is v w f) g in
           omega (arith, h, lt)
 
       go : (o : Option Unit) → slice_get shape.units v ≡ o → node_at shape v ≡ node_at shape k → ⊥
@@ -142,7 +143,7 @@ module _ (typed : Typed) (nodes : List NodeAttrs) (shape : Shape) (good : AreGoo
       place_of : (s : Sending k u t v x) → ((v.node ≡ u.node) × (v.level + 1 ≡ u.level)) ⊎ ((v.node ≢ u.node) × (v.level ≡ top_level nodes v.node))
           → ((v.node ≡ u.node) × (v.level + 1 ≡ u.level)) ⊎ ((v.node ≢ u.node) × IsFirst shape t)
       place_of s (inl own) = inl own
-      place_of s (inr other) = inr (other.0, first_of_node t v s.node.node f s.node.there (other.1 ∙ ap depth_if s.node.there))
+      place_of s (inr other) = inr (other.0, first_of_node t v s.node.node f s.node.there other.1)
 
   -- an element's target is in range
   good_element : (k : ℕ) (u : Unit) (n : IsUnitOfNode typed nodes shape.units u) (from : OutputAttr) (o : Output) → slice_get shape.units k ≡ Some u → o.words ≡ record_words typed.structs (output_record typed n.node from)
@@ -203,7 +204,7 @@ module _ (typed : Typed) (nodes : List NodeAttrs) (shape : Shape) (good : AreGoo
         words = omega (arith, words, bound);
         stride = n.is.stride;
         kind = subst₂ IsGoodKind (sym words) (sym n.is.kind) g.kind;
-        entry = λ t. first_of_node k u n.node e n.there (eqb-true u.level (depth_declared n.node) (and_first (u.level == depth_declared n.node) (n.node.marked || not (is_targeted nodes u.node)) (sym n.is.entry ∙ t)));
+        entry = λ t. first_of_node k u n.node e n.there (eqb-true u.level (top_level nodes u.node) (and_first (u.level == top_level nodes u.node) (n.node.marked || not (is_targeted nodes u.node)) (sym n.is.entry ∙ t)));
         budgets = subst (Each (IsBetween 1 256)) (sym n.is.budgets) g.budgets;
         few_outputs = omega (arith, outputs, few_outputs);
         outputs = each_of (IsGoodOutput shape u) u.outputs (good_output k u n e);
@@ -227,6 +228,18 @@ module _ (typed : Typed) (nodes : List NodeAttrs) (shape : Shape) (good : AreGoo
             ∙ (ap (λ (x : NodeAttrs). map (λ (from : OutputAttr). (from.budget, record_words typed.structs (output_record typed x from), length (elements_of nodes from))) x.outputs) one
             ∙ sym (forms typed nodes shape.units n.node (node_and_level b) n.node.outputs b.outputs n.is.outputs));
       }
+
+  -- top levels are few
+  low_top : (n : ℕ) → top_level nodes n ≤ 31
+  low_top n = low (targets nodes n n) (depth_if (slice_get nodes n)) (go (slice_get nodes n) refl)
+    where
+      go : (o : Option NodeAttrs) → slice_get nodes n ≡ o → depth_if o ≤ 31
+      go None e = omega arith
+      go (Some a) e = let g = node_good n a e in g.recursion
+
+      low : (b : Bool) (d : ℕ) → d ≤ 31 → cond b d 0 ≤ 31
+      low true d le = le
+      low false d le = omega arith
 
   -- nodes of one name and index are one
   names_differ : (i j : ℕ) (n : NodeName) → slice_get (map node_name nodes) i ≡ Some n → slice_get (map node_name nodes) j ≡ Some n → i ≡ j
@@ -255,9 +268,9 @@ module _ (typed : Typed) (nodes : List NodeAttrs) (shape : Shape) (good : AreGoo
     node_names = subst (Each (λ (n : NodeName). IsTrue (is_identifier n.name))) (sym is.nodes_are) (each_map (λ (n : NodeName). IsTrue (is_identifier n.name)) node_name nodes (each_then (IsGoodNode typed) (λ (a : NodeAttrs). IsTrue (is_identifier a.name)) nodes (λ a g. g.name) good.nodes_good));
     nodes_differ = λ i j n e f. names_differ i j n (ap (λ l. slice_get l i) (sym is.nodes_are) ∙ e) (ap (λ l. slice_get l j) (sym is.nodes_are) ∙ f);
     unrolling = record {
-      depths = map depth_declared nodes;
-      count = length-map nodes depth_declared ∙ (sym (length-map nodes node_name) ∙ ap length (sym is.nodes_are));
-      few = each_map (λ d. d ≤ 31) depth_declared nodes (each_then (IsGoodNode typed) (λ (a : NodeAttrs). depth_declared a ≤ 31) nodes (λ a g. g.recursion) good.nodes_good);
+      depths = top_levels nodes;
+      count = length-map-range_with_len (top_level nodes) 0 (length nodes) ∙ (sym (length-map nodes node_name) ∙ ap length (sym is.nodes_are));
+      few = each_of (λ d. d ≤ 31) (top_levels nodes) (λ n d e. let t = top_is nodes n d e in let l = low_top n in omega (arith, t, l));
       units = is.unrolling;
     };
     units = good_unit;

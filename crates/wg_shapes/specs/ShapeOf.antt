@@ -13,7 +13,7 @@ use Rattle.wg_typed.specs.declared.typed.TypedBuffer.{TypedBuffer}
 use Rattle.wg_node_attributes.specs.declared.attributes.NodeAttrs.{NodeAttrs}
 use Rattle.wg_node_attributes.specs.declared.attributes.OutputAttr.{OutputAttr}
 use Rattle.wg_shapes.specs.Chain.{IsLongest}
-use Rattle.wg_shapes.specs.Level.{Sends, depth_declared, top_level}
+use Rattle.wg_shapes.specs.Level.{Sends, top_level, top_levels}
 use Rattle.wg_shapes.specs.Naming.{elements_of, targets}
 use Rattle.wg_shapes.specs.Records.{bool_words, input_record, output_record, record_words, shares_input}
 
@@ -57,9 +57,9 @@ budgets_of outputs = map (most_of outputs) (range_with_len 0 (budget_count outpu
 abbrev pub is_targeted : List NodeAttrs → ℕ → Bool
 is_targeted nodes n = list_any (λ m. not (m == n) && targets nodes m n) (range_with_len 0 (length nodes))
 
--- A record of a script arrives at the declared depth of a node that is marked or that no other node targets.
+-- A record of a script arrives at the top level of a node that is marked or that no other node targets.
 abbrev pub is_entry : List NodeAttrs → ℕ → ℕ → NodeAttrs → Bool
-is_entry nodes n level a = level == depth_declared a && (a.marked || not (is_targeted nodes n))
+is_entry nodes n level a = level == top_level nodes n && (a.marked || not (is_targeted nodes n))
 
 -- ---- units
 
@@ -93,6 +93,6 @@ buffer_name b = b.name.name
 
 pub record IsShapeOf (typed : Typed) (nodes : List NodeAttrs) (shape : Shape) : Type 0 where
   pub nodes_are : shape.nodes ≡ map node_name nodes
-  pub unrolling : map node_and_level shape.units ≡ unrolled 0 (map depth_declared nodes)
+  pub unrolling : map node_and_level shape.units ≡ unrolled 0 (top_levels nodes)
   pub units_are : (k : ℕ) (u : Unit) → slice_get shape.units k ≡ Some u → IsUnitOfNode typed nodes shape.units u
   pub buffers_are : shape.buffers ≡ map buffer_name typed.buffers

@@ -1,0 +1,4 @@
+pub mod FirstOnes
+pub mod Repeats
+pub mod SameRecords
+pub mod SetFlags

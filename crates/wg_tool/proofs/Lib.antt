@@ -4,6 +4,7 @@ pub mod FileLemmas
 pub mod FormLemmas
 pub mod GoodShapes
 pub mod PartLemmas
+pub mod PlanLemmas
 pub mod PrintLemmas
 pub mod RunLemmas
 pub mod ScriptLemmas

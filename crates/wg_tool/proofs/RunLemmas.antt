@@ -5,10 +5,10 @@ use Rattle.wg_machine.specs.declared.launch.Entry.{Entry}
 use Rattle.wg_machine.specs.Step.{entry_of}
 use Rattle.wg_machine.specs.LaunchMeaning.{Meaning}
 use Rattle.wg_standing.specs.declared.pending.Pending.{Pending}
-use Rattle.wg_standing.specs.Core.{CoreView}
+use Rattle.wg_standing.specs.Core.{CoreView, core_begun}
 use Rattle.wg_standing.specs.Moves.{TakesStep}
 use Rattle.wg_standing.specs.Outs.{launch_now}
-use Rattle.std.specs.Prelude.{slice_get, slice_index, unwrap_or, IfSome, IsSome}
+use Rattle.std.specs.Prelude.{slice_get, slice_index, unwrap_or}
 use Rattle.std.specs.Option.{option_map}
 use Rattle.std.proofs.Common.{Option, ◌^◌, ◌%◌}
 use Rattle.wg_words.specs.Each.{Each}
@@ -22,20 +22,21 @@ use Rattle.wg_machine.specs.Choice.{SomeHasRoom}
 use Rattle.wg_machine.specs.Fitting.{IsLawful, OnlyThreads, SendsOne}
 use Rattle.wg_machine.specs.GoodShape.{IsGoodShape}
 use Rattle.wg_machine.specs.LaunchMeaning.{Arrives}
-use Rattle.wg_machine.specs.Run.{IsRun, IsComplete, EachOnce, EachState, all_born, denied_of}
+use Rattle.wg_machine.specs.Run.{IsRun, IsComplete, EachOnce, EachState, all_born}
 use Rattle.wg_machine.specs.State.{State, start}
 use Rattle.wg_machine.specs.Step.{Passed}
 use Rattle.wg_machine.specs.Units.{words_at}
-use Rattle.wg_core.specs.Ending.{tail_of}
-use Rattle.wg_core.specs.Tables.{done_of}
+use Rattle.wg_engine.specs.Ending.{IsReport}
+use Rattle.wg_engine.specs.declared.report.Report.{Report}
 use Rattle.wg_standing.specs.Standing.{StandsFor}
 use Rattle.wg_standing.specs.Idle.{IsIdle}
 use Rattle.wg_machine.specs.declared.journal.Done.{Done}
 use Rattle.wg_machine.specs.declared.journal.Journal.{Journal}
-use Rattle.wg_machine.specs.declared.journal.Tail.{Tail}
 use Rattle.wg_tool.specs.declared.pair.Pair.{Pair}
-use Rattle.wg_tool.specs.Report.{IsReportOfRun, complete_report}
-use Rattle.wg_tool.specs.Running.{IsOnlyOut, RanOne, IsShort}
+use Rattle.wg_tool.specs.Ending.{done_by}
+use Rattle.wg_tool.specs.Report.{IsReportOfRun, complete_report, done_of_run}
+use Rattle.wg_machine.specs.declared.launch.Limits.{Limits}
+use Rattle.wg_tool.specs.Running.{IsOnlyOut, IsRunnable, RanOne, IsShort, default_limits}
 use Rattle.wg_tool.specs.Script.{IsFormScript, IsFormEntry}
 use Rattle.wg_tool.specs.SenderLaws.{IsWired, sender_lawful}
 use Rattle.wg_tool.specs.Sending.{sender, target_at, one_sent, word_of_launch}
@@ -138,18 +139,14 @@ each_weaker : (P Q : State → Type 0) (s : State) (trail : List Passed) → ((x
 each_weaker P Q s [] h e = h s e
 each_weaker P Q s (p ∷ trail) h e = (h s e.0, each_weaker P Q p.after trail h e.1)
 
-done_equal : (l r d p b r' d' p' b' : ℕ) → r ≡ r' → d ≡ d' → p ≡ p' → b ≡ b' → let x : Done = record { launches = l; records = r; denied = d; peak = p; bytes = b } in let y : Done = record { launches = l; records = r'; denied = d'; peak = p'; bytes = b' } in x ≡ y
-done_equal l r d p b r' d' p' b' e f g h = rw (e, f, g, h) refl
-
--- the journal that ends with a done line tells it
-pub tells_done : (core : CoreView) (tail : Tail) → tail ≡ tail_of (Some (done_of core)) None → IsSome tail.done
-tells_done core tail e = subst (λ (t : Tail). IsSome t.done) (sym e) refl
+done_equal : {l l' n n' d d' p p' b b' : ℕ} → l ≡ l' → n ≡ n' → d ≡ d' → p ≡ p' → b ≡ b'
+    → let x : Done = record { launches = l; records = n; denied = d; peak = p; bytes = b } in let y : Done = record { launches = l'; records = n'; denied = d'; peak = p'; bytes = b' } in x ≡ y
+done_equal e f g h i = rw (e, f, g, h, i) refl
 
 -- what a core that is done came to is the report of its run
-pub report_is : (made : Meaning) (script : List Sent) (core : CoreView) (j : Journal) → OnceLaw → BytesLaw → RoomLaw → IdleLaw → IsGoodShape core.shape → StandsFor made script [] core → core.width ≡ 1 → core.limits.turns ≡ 65536 → IsIdle core
-    → j.entries ≡ core.journal → j.tail ≡ tail_of (Some (done_of core)) None
-    → IfSome j.tail.done (λ (d : Done). IsReportOfRun core.shape made script (complete_report core.shape j.entries d))
-report_is made script core j once_law bytes_law room_law idle_law good s width turns idle entries tail =
+pub report_is : (made : Meaning) (script : List Sent) (core : CoreView) (r : Report) → OnceLaw → BytesLaw → RoomLaw → IdleLaw → IsGoodShape core.shape → StandsFor made script [] core → core.width ≡ 1 → core.limits.turns ≡ 65536 → IsIdle core → IsReport core r
+    → IsReportOfRun core.shape made script (complete_report core.shape r.journal.entries (done_by r))
+report_is made script core r once_law bytes_law room_law idle_law good s width turns idle is =
     let shape = core.shape in
     let first = start shape script [] in
     let n = length script in
@@ -157,11 +154,13 @@ report_is made script core j once_law bytes_law room_law idle_law good s width t
     let slots : EachState (KeepsSlots shape 1 n) first s.trail = subst (λ (h : ℕ). EachState (KeepsSlots shape 1 h) first s.trail) s.handed slots_1 in
     let run : IsRun shape made 65536 first core.journal s.trail s.state = subst (λ (t : ℕ). IsRun shape made t first core.journal s.trail s.state) turns s.run in
     let complete = idle_law made script [] core s idle in
-    let peak_is : core.peak ≡ peak shape n first s.trail = s.peak ∙ ap (λ (h : ℕ). peak shape h first s.trail) s.handed in
-    let bytes_are : plan_bytes shape core.width ≡ plan_bytes shape 1 = ap (λ (w : ℕ). plan_bytes shape w) width in
-    let lines : complete_report shape j.entries (done_of core) ≡ complete_report shape core.journal (done_of core) = ap (λ (es : List Entry). complete_report shape es (done_of core)) entries in
-    let done = done_equal (length core.journal) core.next core.denied core.peak (plan_bytes shape core.width) s.state.next (denied_of s.trail) (peak shape n first s.trail) (plan_bytes shape 1) s.next s.denied peak_is bytes_are in
-    let report : IsReportOfRun shape made script (complete_report shape j.entries (done_of core)) = record {
+    let peak_is : r.peak ≡ peak shape n first s.trail = is.peak ∙ (s.peak ∙ ap (λ (h : ℕ). peak shape h first s.trail) s.handed) in
+    let bytes_are : r.bytes ≡ plan_bytes shape 1 = is.bytes ∙ ap (λ (w : ℕ). plan_bytes shape w) width in
+    let entries : r.journal.entries ≡ core.journal = ap (λ (j : Journal). j.entries) is.journal in
+    let launches : length r.journal.entries ≡ length core.journal = ap (λ (es : List Entry). length es) entries in
+    let done : done_by r ≡ done_of_run shape script core.journal s.trail s.state =
+    done_equal launches (is.records ∙ s.next) (is.denied ∙ s.denied) peak_is bytes_are in
+    record {
       journal = core.journal;
       trail = s.trail;
       final = s.state;
@@ -170,11 +169,20 @@ report_is made script core j once_law bytes_law room_law idle_law good s width t
       once = once_law shape made 65536 script [] core.journal s.trail s.state run complete;
       within = each_weaker (KeepsSlots shape 1 n) (λ x. live_bytes shape n x ≤ plan_bytes shape 1) first s.trail (λ x k. bytes_law shape 1 n x k) slots;
       never_stands = each_weaker (KeepsSlots shape 1 n) (λ x. x.bag ≢ [] → SomeHasRoom shape 1 n x) first s.trail (λ x k. room_law shape 1 n x good (omega arith) k) slots;
-      text_is = lines ∙ ap (λ (d : Done). complete_report shape core.journal d) done;
-    } in
-    subst (λ (t : Tail). IfSome t.done (λ (d : Done). IsReportOfRun shape made script (complete_report shape j.entries d))) (sym tail) report
+      text_is = ap (λ (es : List Entry). complete_report shape es (done_by r)) entries ∙ ap (λ (d : Done). complete_report shape core.journal d) done;
+    }
 
 -- the numbers of sent records fit
 pub outs_fit : (n : ℕ) (es : List Entry) → n < 2 ^ 64 → Each (λ (e : Entry). e.first_out + e.outs ≤ n) es → Each (λ (e : Entry). e.first_out + e.outs ≤ 2 ^ 64) es
 outs_fit n [] h all = tt
 outs_fit n (e ∷ es) h all = (let x = all.0 in omega arith, outs_fit n es h all.1)
+
+-- the law that a core at the start of a script stands for it
+abbrev pub BeginLaw : Type 0
+BeginLaw = (made : Meaning) (shape : Shape) (width : ℕ) (limits : Limits) (script : List Sent) (buffers : Buffers) → Each (Arrives shape) script → StandsFor made script buffers (core_begun shape width limits script buffers)
+
+-- the core at the start of a script stands for it
+pub begun_stands : (made : Meaning) (shape : Shape) (script : List Sent) → IsRunnable shape script → (core : CoreView) → BeginLaw → core ≡ core_begun shape 1 default_limits script [] → StandsFor made script [] core
+begun_stands made shape script run core law begun =
+    let arrive = subst (λ (s : Shape). Each (Arrives s) script) (sym run.is) (entries_arrive run.pairs script run.entries.each) in
+    subst (λ (c : CoreView). StandsFor made script [] c) (sym begun) (law made shape 1 default_limits script [] arrive)

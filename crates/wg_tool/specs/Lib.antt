@@ -1,4 +1,5 @@
 pub mod Answers
+pub mod Ending
 pub mod FirstForm
 pub mod Headline
 pub mod Parts

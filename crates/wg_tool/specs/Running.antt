@@ -1,12 +1,13 @@
 -- What a core keeps while one launch after another is opened and settled.
 use Rattle.std.specs.Prelude.{◌≡◌, ℕ, ◌+◌, ◌<◌, List, [], ◌∷◌, length, None}
+use Rattle.wg_machine.specs.declared.launch.Limits.{Limits}
 use Rattle.wg_machine.specs.declared.launch.Sent.{Sent}
 use Rattle.wg_machine.specs.declared.shape.Shape.{Shape}
 use Rattle.wg_machine.specs.LaunchMeaning.{Meaning}
 use Rattle.wg_standing.specs.declared.pending.Pending.{Pending}
 use Rattle.wg_standing.specs.Core.{CoreView}
 use Rattle.wg_standing.specs.Standing.{StandsFor}
-use Rattle.wg_words.specs.declared.limits.TheConstants.{DEFAULT_LAUNCHES}
+use Rattle.wg_words.specs.declared.limits.TheConstants.{DEFAULT_LAUNCHES, DEFAULT_TURNS}
 use Rattle.wg_tool.specs.declared.pair.Pair.{Pair}
 use Rattle.wg_tool.specs.FirstForm.{IsFirstForm}
 use Rattle.wg_tool.specs.Script.{IsFormScript}
@@ -44,6 +45,14 @@ pub record StandsShort (made : Meaning) (core : CoreView) : Type 0 where
   pub script : List Sent
   pub stands : StandsFor made script [] core
   pub short : IsShort core.shape made script
+
+-- the limits of a run
+abbrev pub default_limits : Limits
+default_limits = record { turns = DEFAULT_TURNS; launches = DEFAULT_LAUNCHES }
+
+-- the shape of a graph of the first form
+abbrev pub IsFormShape : Shape → Type 0
+IsFormShape shape = (pairs : List Pair) × IsFirstForm pairs × (shape ≡ shape_of pairs)
 
 -- a graph of the first form with a script of its
 pub record IsRunnable (shape : Shape) (script : List Sent) : Type 0 where

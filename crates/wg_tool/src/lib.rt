@@ -4,6 +4,7 @@
 mod answer;
 mod bodies;
 mod call;
+mod ending;
 mod graph;
 mod pair;
 mod parts;

@@ -7,6 +7,7 @@ ghost use Rattle.wg_tool.specs.Stages.{RanSays, ScriptSays, FileSays};
 
 use crate::answer::{Answer, BAD_SCRIPT, Input, REFUSED};
 use crate::bodies::Senders;
+use crate::ending::done_of;
 use crate::graph::read_graph;
 use crate::pair::Pair;
 use crate::print::{PrintFault, print_report};
@@ -25,13 +26,17 @@ fn run_entries<S: Sink>(alloc: Global, senders: &Senders, entries: Entries, out:
     requires { IsRunnable senders.now.shape entries }
     ensures { Concludes (RanSays senders.now.shape (sender senders.now.targets senders.now.adds) entries) (S.written out.old) (S.written out.new) (S.faults out.old) (S.faults out.new) result }
 {
-    let Ok(journal) = run_script(alloc, senders, entries) else {
+    let Ok(report) = run_script(alloc, senders, entries) else {
         return Answer::OutOfMemory;
     };
-    let Some(done) = &journal.tail.done else {
-        unreachable!();
-    };
-    match print_report(alloc, &senders.shape, journal.entries.as_slice(), done, out) {
+    let done = done_of(&report);
+    match print_report(
+        alloc,
+        &senders.shape,
+        report.journal.entries.as_slice(),
+        &done,
+        out,
+    ) {
         Ok(()) => Answer::Done,
         Err(PrintFault::Write) => Answer::WriteFault,
         Err(PrintFault::Memory) => Answer::OutOfMemory,

@@ -8,7 +8,8 @@ ghost use Rattle.wg_words.specs.declared.limits.TheConstants.{DEFAULT_LAUNCHES};
 
 use crate::bodies::Senders;
 use std::alloc::AllocError;
-use wg_core::{Core, Opened, Settled};
+use wg_engine::{Core, Opened, Settled};
+use wg_kept::Keep;
 
 /// What one opening and its settling came to.
 #[derive(Clone, Copy, Debug, PartialEq, Eq)]
@@ -19,14 +20,14 @@ enum Stepped {
 }
 
 /// Settles the one launch that is out.
-fn settle(senders: &Senders, core: &mut Core, ticket: u64) -> Result<(), AllocError>
+fn settle(senders: &Senders, core: &mut Core<Keep>, ticket: u64) -> Result<(), AllocError>
     requires graph { senders.now.shape ≡ core.old.shape }
     requires out { IsOnlyOut core.old ticket }
     ensures stands { (script : List SentOf) → StandsFor (sender senders.now.targets senders.now.adds) script [] core.old → StandsFor (sender senders.now.targets senders.now.adds) script [] core.new }
     ensures plan { KeepsPlan core.old core.new }
     ensures ran { OnOk result (RanOne core.old core.new) }
 {
-    match core.settle(senders, ticket) {
+    match core.settle(senders, ticket, None) {
         Settled::Redone => Ok(()),
         Settled::Memory => Err(AllocError),
         Settled::Kept | Settled::TurnsSpent(_) | Settled::NotOut | Settled::Stopped =>
@@ -35,7 +36,7 @@ fn settle(senders: &Senders, core: &mut Core, ticket: u64) -> Result<(), AllocEr
 }
 
 /// Opens the next launch and settles it.
-fn step(senders: &Senders, core: &mut Core) -> Stepped
+fn step(senders: &Senders, core: &mut Core<Keep>) -> Stepped
     requires graph { senders.now.shape ≡ core.old.shape }
     requires limit { core.old.limits.launches ≡ DEFAULT_LAUNCHES }
     requires ready { IsBetweenLaunches core.old }
@@ -58,7 +59,7 @@ fn step(senders: &Senders, core: &mut Core) -> Stepped
 }
 
 /// Opens and settles one launch after another, until nothing is left.
-pub fn run_all(senders: &Senders, core: &mut Core) -> Result<(), AllocError>
+pub fn run_all(senders: &Senders, core: &mut Core<Keep>) -> Result<(), AllocError>
     requires graph { senders.now.shape ≡ core.old.shape }
     requires limit { core.old.limits.launches ≡ DEFAULT_LAUNCHES }
     requires ready { IsBetweenLaunches core.old }

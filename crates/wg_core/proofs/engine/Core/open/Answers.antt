@@ -1,8 +1,0 @@
-use Rattle.std.proofs.Common.{subst}
-use Rattle.wg_machine.specs.GoodShape.{IsGoodShape}
-use Rattle.wg_standing.specs.Core.{CoreView}
-use Rattle.wg_core.proofs.Stands.{stands_opened}
-use Rattle.wg_core.proofs.engine.Core.open.Goals as goal
-
-pub returns-clause-stands : goal.returns-clause-stands
-returns-clause-stands c = λ made script start h. stands_opened c.openings_stand.ensures made script start _ _ c.opened.result (subst (λ (n : CoreView). IsGoodShape n.shape) c.self.view_is c.self.invariant.good) c.opened.ensures h

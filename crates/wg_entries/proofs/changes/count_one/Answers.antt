@@ -1,0 +1,24 @@
+use Rattle.std.proofs.Common.{◌∙◌, ◌≤◌, length, refl, ap, subst, sym, arith}
+use Rattle.std.specs.Prelude.{slice_set}
+use Rattle.std.proofs.lemmas.Option.{slice_get_read}
+use Rattle.wg_store.specs.declared.item.Item.{Item}
+use Rattle.wg_store.specs.Items.{with_counted}
+use Rattle.wg_entries.proofs.Placed.{by_first, by_past_first, may_first}
+use Rattle.wg_entries.proofs.changes.count_one.Goals as goal
+
+pub returns-then-place-items : goal.returns-then-place-items
+returns-then-place-items c = by_past_first with_counted c.args.number c.args.items.now c.requires.places (omega (arith, c.if-place-items.true))
+
+pub count_item-requires : goal.count_item-requires
+count_item-requires c =
+    let xs = c.args.items.now in
+    let x = c.index-items-place.result in
+    let there = slice_get_read xs (length xs) c.args.number x refl (omega (arith, c.if-place-items.false)) c.index-items-place.is in
+    subst (λ (x : Item). 1 ≤ x.opening.left) c.index-items-place.is (may_first (λ (x : Item). 1 ≤ x.opening.left) c.args.number xs x c.requires.places there c.requires.can)
+
+pub returns : goal.returns
+returns c =
+    let xs = c.args.items.now in
+    let x = c.index-items-place.result in
+    let there = slice_get_read xs (length xs) c.args.number x refl (omega (arith, c.if-place-items.false)) c.index-items-place.is in
+    ap (slice_set xs c.args.number) (c.count_item.ensures ∙ ap with_counted (sym c.index-items-place.is)) ∙ by_first with_counted c.args.number xs x c.requires.places there

@@ -1,0 +1,11 @@
+pub mod Beginnings
+pub mod Counting
+pub mod Finding
+pub mod Idling
+pub mod Openings
+pub mod Pendings
+pub mod Putting
+pub mod Settlings
+pub mod Steps
+pub mod Takings
+pub mod Uses

@@ -1,7 +1,8 @@
-ghost use Rattle.std.specs.Prelude.{◌≡◌, ◌*◌, ◌&&◌, IfOk, IfSome, Some, false, true, replicate};
+ghost use Rattle.std.specs.Prelude.{◌≡◌, [], ◌*◌, ◌&&◌, IfOk, IfSome, Some, false, true, replicate};
 ghost use Rattle.wg_machine.specs.Buffers.{Buffers};
 ghost use Rattle.wg_machine.specs.GoodShape.{IsGoodShape};
-ghost use Rattle.wg_machine.specs.LaunchMeaning.{FitsShape};
+ghost use Rattle.wg_machine.specs.LaunchMeaning.{FitsShape, outcome_of};
+ghost use Rattle.wg_state.specs.Launching.{world_before, outcome_with};
 ghost use Rattle.wg_state.specs.Lanes.{lanes_in};
 ghost use Rattle.wg_state.specs.WordLists.{zeros};
 ghost use Rattle.wg_code.specs.CodeMeaning.{node_ends, verdict, verdict_of};
@@ -16,7 +17,7 @@ use std::alloc::{AllocError, Global};
 use wg_code::{Code, NodeCode, RawCode, tests_change_nothing};
 use wg_machine::{Halt, Launch, Made, Memory, Unit};
 use wg_operations::Spare;
-use wg_registers::{Outside, SharedWords, zero_words};
+use wg_registers::{Outside, SharedWords, Sharing, sharing_of, world_of, zero_words};
 use wg_words::{Word, WordLists};
 use wg_worlds::{first_world, made_by};
 
@@ -50,6 +51,28 @@ fn first_shared(alloc: Global, count: u32) -> Result<SharedWords, AllocError>
     Ok(SharedWords::from_vec(zero_words(alloc, count)?.into_vec()))
 }
 
+/// What the lanes of a launch share before it runs.
+fn first_sharing(alloc: Global, unit: &Unit, launch: &Launch) -> Result<Sharing, AllocError>
+    ensures { IfOk result (λ world. world ≡ world_before [] unit.now launch.now []) }
+{
+    let none = WordLists::new(alloc);
+    let world = first_world(alloc, none, unit, launch, WordLists::new(alloc))?;
+    sharing_of(alloc, world)
+}
+
+/// What a launch of a unit made, by what its lanes left, and the turns that it had.
+fn made_of(alloc: Global, unit: &Unit, turns: u64, left: Outside) -> Result<Made, AllocError>
+    ensures { IfOk result (λ made. (buffers : Buffers) → outcome_with unit.now turns (record left.world { buffers = buffers }) left.turns ≡ outcome_of made buffers) }
+{
+    let Outside {
+        world,
+        turns: rest,
+        ..
+    } = left;
+    let world = world_of(alloc, world)?;
+    made_by(alloc, unit, turns, &world, rest)
+}
+
 /// Runs a launch of a unit by its node's code.
 fn run_node<M: Memory>(
     alloc: Global,
@@ -76,13 +99,7 @@ fn run_node<M: Memory>(
     };
     let mut registers = first_registers(alloc, lanes, node.registers)?;
     let shared = first_shared(alloc, code.shared)?;
-    let world = first_world(
-        alloc,
-        WordLists::new(alloc),
-        unit,
-        launch,
-        WordLists::new(alloc),
-    )?;
+    let world = first_sharing(alloc, unit, launch)?;
     let mut s = Outside {
         shared,
         world,
@@ -91,7 +108,7 @@ fn run_node<M: Memory>(
     let mut spare = Spare::new(alloc);
     let parts = node.parts.as_slice();
     run_parts(&group, &mut spare, parts, &mut registers, &mut s, mem)?;
-    Ok(made_by(alloc, unit, turns, &s.world, s.turns)?)
+    Ok(made_of(alloc, unit, turns, s)?)
 }
 
 /// Runs a launch of code that is not tested as it runs.

@@ -7,7 +7,10 @@ use Rattle.wg_machine.specs.declared.bodies.Halt.{Halt}
 use Rattle.wg_machine.specs.declared.bodies.Halt.TheVariants as halt
 use Rattle.wg_machine.specs.declared.launch.Record.{Record}
 use Rattle.wg_machine.specs.declared.shape.Unit.{Unit as Node}
+use Rattle.wg_state.specs.Launching.{record_words_of}
 use Rattle.wg_state.specs.Turns.{Ending, Done}
+use Rattle.wg_state.specs.declared.world.Grant.{Grant}
+use Rattle.wg_state.specs.declared.world.World.{World}
 use Rattle.wg_code.specs.CodeMeaning.{around_of}
 use Rattle.wg_code.specs.FrameMeaning.{launch_of, with_words, frame_after, FrameFits, LaneMakes, lane_verdict_of, node_lane_verdict, unit_lane_verdict, lane_verdict}
 use Rattle.wg_code.specs.Functions.{in_function, callees}
@@ -114,6 +117,31 @@ module _ (code : RawCode) (body : List Op) (frame : Frame) (turns : ℕ) (unit :
   pub lane_spends : (h : Halt) (registers : List ℕ) (s : Outside) → h ≡ halt.Turns → Runs (acts A ops) o.registers.items o.outside old (Err h) registers s new → SpendsFrame code body frame turns old new
   lane_spends h registers s is d = λ start a.
       verdict_is (now_of old start) ∙ ap (λ v. lane_verdict_of frame turns (lane_left false v)) (subst (λ k. Runs (acts A ops) o.registers.items o.outside old (Err k) registers s new) is d start a)
+
+-- ---- a frame is taken apart
+
+pub shell_is : (frame : Frame) (registers shared left : List ℕ) (grants : List Grant) → registers ≡ [] → shared ≡ [] → left ≡ [] → grants ≡ []
+    → record frame { registers = registers; shared = shared; left = left; grants = grants; denied = 0 } ≡ record frame { registers = []; shared = []; left = []; grants = []; denied = 0 }
+shell_is frame registers shared left grants r s l g =
+    ap (λ (x : List ℕ). record frame { registers = x; shared = shared; left = left; grants = grants; denied = 0 }) r
+    ∙ (ap (λ (x : List ℕ). record frame { registers = []; shared = x; left = left; grants = grants; denied = 0 }) s
+    ∙ (ap (λ (x : List ℕ). record frame { registers = []; shared = []; left = x; grants = grants; denied = 0 }) l
+    ∙ ap (λ (x : List Grant). record frame { registers = []; shared = []; left = []; grants = x; denied = 0 }) g))
+
+abbrev site_with : List ℕ → List ℕ → World → Buffers → Site
+site_with registers shared world buffers = record { registers = registers; shared = shared; world = record world { buffers = buffers } }
+
+abbrev pub world_with : Frame → List (List ℕ) → World
+world_with frame inputs = record { shared = []; inputs = inputs; grants = frame.grants; left = frame.left; denied = frame.denied; buffers = [] }
+
+pub opened_site : (frame : Frame) (registers shared : List ℕ) (inputs : List (List ℕ)) (world : World) (turns : ℕ)
+    → registers ≡ frame.registers → shared ≡ frame.shared → inputs ≡ record_words_of (launch_of frame) → world ≡ world_with frame inputs
+    → (b : Buffers) → site_of registers (record { shared = shared; world = world; turns = turns }) b ≡ frame_site frame b
+opened_site frame registers shared inputs world turns r s i w b =
+    ap (λ (x : List ℕ). site_with x shared world b) r
+    ∙ (ap (λ (x : List ℕ). site_with frame.registers x world b) s
+    ∙ (ap (λ (x : World). site_with frame.registers frame.shared x b) w
+    ∙ ap (λ (x : List (List ℕ)). site_with frame.registers frame.shared (world_with frame x) b) i))
 
 -- what is around the lane of a frame that fits a body, by any name of the code
 pub around_there : (code raw : RawCode) → raw ≡ code → (body : List Op) (frame : Frame) (fits : FrameFits code body frame) (A : Around)

@@ -21,7 +21,7 @@ use wg_code::{Code, Frame, Grants, Op, Ops, RawCode, bodies_go_through};
 use wg_control::{GroupSpot, around, run_body};
 use wg_machine::{Halt, Memory, Record, Records};
 use wg_operations::{End, Spare};
-use wg_registers::{Around, Outside, SharedWords};
+use wg_registers::{Around, Outside, SharedWords, sharing_of, world_of};
 use wg_state::World;
 use wg_words::{TryCopy, Word, WordLists, Words};
 
@@ -75,7 +75,7 @@ fn open(alloc: Global, frame: Frame, turns: u64) -> Result<Opened, AllocError>
     };
     let outside = Outside {
         shared: SharedWords::from_vec(frame.shared.into_vec()),
-        world,
+        world: sharing_of(alloc, world)?,
         turns,
     };
     let shell = Frame {
@@ -110,6 +110,7 @@ fn close(alloc: Global, opened: Opened, turns: u64) -> Result<Frame, AllocError>
         outside,
     } = opened;
     let Outside { shared, world, .. } = outside;
+    let world = world_of(alloc, world)?;
     let inputs = records_with(alloc, shell.inputs.as_slice(), world.inputs)?;
     Ok(Frame {
         unit: shell.unit,

@@ -113,7 +113,7 @@ fn run_outer(around: &Around<'_>, op: &Op, registers: &mut [Word], s: &mut Outsi
         }
         Op::InputGet { d, input, word: at } => {
             let input = word(registers, *input);
-            let value = input_word(&s.world.inputs, input, word(registers, *at));
+            let value = input_word(&s.world, input, word(registers, *at));
             put(registers, *d, value)
         }
         Op::InputPut { input, word, a } => set_input(around, registers, s, *input, *word, *a),

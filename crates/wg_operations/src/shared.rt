@@ -9,10 +9,11 @@ ghost use Rattle.wg_operations.specs.Says.{Makes};
 
 use std::alloc::AllocError;
 use wg_registers::{
-    Around, Outside, RecordSpot, ask, close, exchange, handle_output, latest_grant, owner, put,
-    put_input, put_record, put_shared, ranged_word, record_word, word,
+    Around, Outside, RecordSpot, Sharing, ask, close, exchange, handle_output,
+    input_count as count_inputs, latest_grant, owner, put, put_input, put_record, put_shared,
+    ranged_word, record_word, word,
 };
-use wg_state::{Grant, Request};
+use wg_state::Request;
 use wg_words::Word;
 
 /// A range of words and the register of an index into it.
@@ -86,7 +87,7 @@ pub fn set_input(
     let record = word(registers, input);
     let index = word(registers, at);
     let value = word(registers, a);
-    put_input(&mut s.world.inputs, around.alloc, record, index, value);
+    put_input(&mut s.world, around.alloc, record, index, value);
 }
 
 fn ask_for(
@@ -145,25 +146,24 @@ pub fn increment(
     ask_for(around, registers, s, None, asked)
 }
 
-fn last_grant(around: &Around<'_>, grants: &[Grant], handle: u32) -> Option<u64>
-    ensures { result ≡ latest handle (owner_of (slice_get around.now.handles.now handle) around.now.lane) 0 None grants.now }
+fn last_grant(around: &Around<'_>, world: &Sharing, handle: u32) -> Option<u64>
+    ensures { result ≡ latest handle (owner_of (slice_get around.now.handles.now handle) around.now.lane) 0 None world.now.grants }
 {
-    latest_grant(grants, handle, owner(around, handle))
+    latest_grant(world, handle, owner(around, handle))
 }
 
 /// `RecordGet`.
 pub fn get_record(around: &Around<'_>, registers: &mut [Word], s: &Outside, d: u32, at: Spot)
     ensures makes { Makes (does (around_of around.now) (λ f. missing false) (Op-F.RecordGet d at.handle at.index at.from at.to at.word)) registers.old s.now registers.new s.now }
 {
-    let grants = s.world.grants.as_slice();
-    let grant = last_grant(around, grants, at.handle);
+    let grant = last_grant(around, &s.world, at.handle);
     let spot = RecordSpot {
         record: word(registers, at.index),
         from: at.from,
         to: at.to,
         word: word(registers, at.word),
     };
-    let value = record_word(grants, grant, spot);
+    let value = record_word(&s.world, grant, spot);
     put(registers, d, value);
 }
 
@@ -172,7 +172,7 @@ pub fn set_record(around: &Around<'_>, registers: &[Word], s: &mut Outside, at: 
     ensures makes { Makes (does (around_of around.now) (λ f. missing false) (Op-F.RecordPut at.handle at.index at.from at.to at.word a)) registers.now s.old registers.now s.new }
     ensures turns { s.new.turns ≡ s.old.turns }
 {
-    let grant = last_grant(around, s.world.grants.as_slice(), at.handle);
+    let grant = last_grant(around, &s.world, at.handle);
     let spot = RecordSpot {
         record: word(registers, at.index),
         from: at.from,
@@ -180,7 +180,7 @@ pub fn set_record(around: &Around<'_>, registers: &[Word], s: &mut Outside, at: 
         word: word(registers, at.word),
     };
     let value = word(registers, a);
-    put_record(&mut s.world.grants, around.alloc, grant, spot, value);
+    put_record(&mut s.world, grant, spot, value);
 }
 
 /// `Complete`.
@@ -189,15 +189,15 @@ pub fn complete(around: &Around<'_>, registers: &[Word], s: &mut Outside, handle
     ensures makes { Makes (does (around_of around.now) (λ f. missing false) (Op-F.Complete handle)) registers.now s.old registers.now s.new }
     ensures turns { s.new.turns ≡ s.old.turns }
 {
-    let grant = last_grant(around, s.world.grants.as_slice(), handle);
-    close(around.alloc, grant, &mut s.world);
+    let grant = last_grant(around, &s.world, handle);
+    close(grant, &mut s.world);
 }
 
 /// How many input records there are.
 pub fn input_count(s: &Outside) -> Result<u32, AllocError>
     ensures { IfOk result (λ n. n ≡ length s.now.world.inputs) }
 {
-    match u32::try_from(s.world.inputs.len()) {
+    match u32::try_from(count_inputs(&s.world)) {
         Ok(count) => Ok(count),
         Err(_) => Err(AllocError),
     }

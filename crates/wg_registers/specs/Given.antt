@@ -1,5 +1,5 @@
 -- What the evaluator is given, as the definitions of node code have it.
-use Rattle.std.specs.Prelude.{ℕ, List, []}
+use Rattle.std.specs.Prelude.{ℕ, List}
 use Rattle.wg_machine.specs.Buffers.{Buffers}
 use Rattle.wg_code.specs.Lane.{Around, Site}
 use Rattle.wg_registers.specs.declared.around.Around.{Around as Given}

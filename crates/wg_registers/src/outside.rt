@@ -2,11 +2,11 @@ ghost use Rattle.std.specs.Prelude.{◌≡◌, ◌<◌, [], length, slice_index_
 ghost use Rattle.wg_machine.specs.Buffers.{word_at, with_word};
 ghost use Rattle.wg_code.specs.Lane.{with_ranged};
 
+use crate::sharing::Sharing;
 use crate::words::{put, word};
 use sqlite_items::Items;
 use std::alloc::Global;
 use std::mem;
-use wg_state::World;
 use wg_words::{Word, WordLists, Words};
 
 /// The words that a text declares `groupshared`.
@@ -16,7 +16,7 @@ pub type SharedWords = Items<Word>;
 #[derive(Drop)]
 pub struct Outside {
     pub shared: SharedWords,
-    pub world: World,
+    pub world: Sharing,
     pub turns: u64,
 }
 
@@ -33,7 +33,7 @@ pub fn put_shared(shared: &mut SharedWords, from: u32, to: u32, index: u32, valu
 }
 
 /// A word of an input record.
-pub fn input_word(inputs: &WordLists, input: u32, at: u32) -> Word
+pub fn word_of(inputs: &WordLists, input: u32, at: u32) -> Word
     ensures { result ≡ word_at inputs.now input at }
 {
     match inputs.get(input as usize) {
@@ -53,7 +53,7 @@ fn put_in(list: &mut Vec<Words>, alloc: Global, at: usize, word: u32, value: Wor
 }
 
 /// Sets a word of an input record.
-pub fn put_input(inputs: &mut WordLists, alloc: Global, input: u32, at: u32, value: Word)
+pub fn put_word_of(inputs: &mut WordLists, alloc: Global, input: u32, at: u32, value: Word)
     ensures { inputs.new ≡ with_word inputs.old input at value }
 {
     if (input as usize) < inputs.len() {

@@ -1,0 +1,5 @@
+pub mod Fits
+pub mod Fullness
+pub mod Listings
+pub mod Tables
+pub mod Truths
